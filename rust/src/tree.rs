@@ -1,6 +1,6 @@
 //! Lists in a tree of shared blocks, of which each version may be kept.
 
-use crate::error::{Error, Rejected, assert_index, inside, inside_with};
+use crate::error::{Error, Rejected, assert_index, indices, indices_or_panic, inside, inside_with};
 use crate::proved::ecow_tree as proved;
 use crate::shim::alloc::Global;
 use crate::shim::granted;
@@ -9,7 +9,7 @@ use core::cmp::Ordering;
 use core::fmt::{self, Debug};
 use core::hash::{Hash, Hasher};
 use core::iter::FusedIterator;
-use core::ops::Index;
+use core::ops::{Index, RangeBounds};
 
 /// A list whose clones share its elements in blocks of up to 128, in a tree.
 ///
@@ -76,7 +76,7 @@ impl<T> EcoTree<T> {
         self.0.clear();
     }
 
-    /// The elements in order, as slices of 1 to 128. It is the fastest way to read all of them.
+    /// The elements in order, as slices of 1 to 128, from both ends. It is the fastest way to read all of them.
     ///
     ///     assert_eq!(ecow::EcoTree::from([1; 200]).chunks().map(<[i32]>::len).sum::<usize>(), 200);
     #[must_use]
@@ -84,12 +84,12 @@ impl<T> EcoTree<T> {
         Chunks(self.0.chunks())
     }
 
-    /// The elements in order.
+    /// The elements in order, from both ends.
     ///
-    ///     assert!(ecow::EcoTree::from([1, 2]).iter().eq(&[1, 2]));
+    ///     assert!(ecow::EcoTree::from([1, 2]).iter().rev().eq(&[2, 1]));
     #[must_use]
     pub fn iter(&self) -> Iter<'_, T> {
-        Iter(self.0.iter(), self.len())
+        Iter(self.0.iter())
     }
 
     /// Moves the elements of `other` behind those of this list. `other` is empty then. This list shares all blocks of
@@ -150,6 +150,49 @@ impl<T: Clone> EcoTree<T> {
     ///     assert_eq!(ecow::EcoTree::from([1]).try_extend_from_slice(&[2, 3]), Ok(()));
     pub fn try_extend_from_slice(&mut self, slice: &[T]) -> Result<(), Error> {
         Ok(self.0.extend_from_slice(slice)?)
+    }
+
+    /// Lends `change` the element at `index`, and returns its answer. A shared block of elements is cloned.
+    /// # Errors
+    /// `Error::Index`; `Error::Memory` if something shared can't be copied. `change` isn't called then.
+    ///
+    ///     assert_eq!(ecow::EcoTree::from([1, 2]).try_update(0, |one| std::mem::replace(one, 7)), Ok(1));
+    pub fn try_update<R>(&mut self, index: usize, change: impl FnOnce(&mut T) -> R) -> Result<R, Error> {
+        inside(index < self.len())?;
+        Ok(self.0.update(index, change)?)
+    }
+
+    /// Replaces the elements of a range with clones of those of a slice, which get blocks of their own. A shared block of
+    /// elements in which the range begins or ends is cloned. Takes time logarithmic in the length, and linear in the
+    /// numbers of elements that come and go.
+    /// # Panics
+    /// If the range isn't in the list.
+    ///
+    ///     let mut list = ecow::EcoTree::from([1, 2, 3]); list.replace_range(1..2, &[7, 8]);
+    ///     assert_eq!(list, [1, 7, 8, 3]);
+    #[track_caller]
+    pub fn replace_range(&mut self, range: impl RangeBounds<usize>, slice: &[T]) {
+        let range = indices_or_panic(range, self.len());
+        granted(self.0.replace_range(range, slice));
+    }
+
+    /// As [`replace_range`](Self::replace_range).
+    /// # Errors
+    /// `Error::Index` for a range that isn't in the list; `Error::Capacity`, `Error::Memory`. The list is unchanged then.
+    ///
+    ///     assert_eq!(ecow::EcoTree::from([1]).try_replace_range(2.., &[3]), Err(ecow::Error::Index));
+    pub fn try_replace_range(&mut self, range: impl RangeBounds<usize>, slice: &[T]) -> Result<(), Error> {
+        let range = indices(range, self.len())?;
+        Ok(self.0.replace_range(range, slice)?)
+    }
+
+    /// Appends the items of `iter`, one after another, each as [`push`](Self::push) does.
+    /// # Errors
+    /// `Error::Capacity`, `Error::Memory`. The items before the refused one stay; it and those behind it are dropped.
+    ///
+    ///     assert_eq!(ecow::EcoTree::from([1]).try_extend([2, 3]), Ok(()));
+    pub fn try_extend(&mut self, iter: impl IntoIterator<Item = T>) -> Result<(), Error> {
+        Ok(self.0.extend(iter)?)
     }
 
     /// Takes the elements from `at` on, as another list. Both lists keep their blocks, and no element is cloned, except
@@ -227,7 +270,7 @@ impl<T> Index<usize> for EcoTree<T> {
 
 impl<T: Debug> Debug for EcoTree<T> {
     fn fmt(&self, f: &mut fmt::Formatter<'_>) -> fmt::Result {
-        f.debug_list().entries(self).finish()
+        self.0.fmt(f)
     }
 }
 
@@ -253,34 +296,31 @@ impl<T: PartialEq, const N: usize> PartialEq<[T; N]> for EcoTree<T> {
 
 impl<T: PartialOrd> PartialOrd for EcoTree<T> {
     fn partial_cmp(&self, other: &Self) -> Option<Ordering> {
-        self.iter().partial_cmp(other)
+        self.0.partial_cmp(&other.0)
     }
 }
 
 impl<T: Ord> Ord for EcoTree<T> {
     fn cmp(&self, other: &Self) -> Ordering {
-        self.iter().cmp(other)
+        self.0.cmp(&other.0)
     }
 }
 
 impl<T: Hash> Hash for EcoTree<T> {
     fn hash<H: Hasher>(&self, state: &mut H) {
-        state.write_usize(self.len());
-        self.iter().for_each(|element| element.hash(state));
+        self.0.hash(state);
     }
 }
 
 impl<T: Clone> Extend<T> for EcoTree<T> {
     fn extend<I: IntoIterator<Item = T>>(&mut self, iter: I) {
-        iter.into_iter().for_each(|element| self.push(element));
+        granted(self.0.extend(iter));
     }
 }
 
 impl<T: Clone> FromIterator<T> for EcoTree<T> {
     fn from_iter<I: IntoIterator<Item = T>>(iter: I) -> Self {
-        let mut list = EcoTree::new();
-        list.extend(iter);
-        list
+        EcoTree(granted(proved::EcoTree::from_iter(Global, iter)))
     }
 }
 
@@ -315,23 +355,34 @@ impl<'a, T> Iterator for Chunks<'a, T> {
     }
 }
 
+impl<T> DoubleEndedIterator for Chunks<'_, T> {
+    fn next_back(&mut self) -> Option<Self::Item> {
+        self.0.next_back()
+    }
+}
+
 impl<T> FusedIterator for Chunks<'_, T> {}
 
-/// The elements of an [`EcoTree`] in order, and how many are still to come.
-pub struct Iter<'a, T>(proved::Iter<'a, T>, usize);
+/// The elements of an [`EcoTree`] in order.
+pub struct Iter<'a, T>(proved::Iter<'a, T>);
 
 impl<'a, T> Iterator for Iter<'a, T> {
     type Item = &'a T;
 
     #[inline]
     fn next(&mut self) -> Option<&'a T> {
-        let next = self.0.next();
-        self.1 -= usize::from(next.is_some());
-        next
+        self.0.next()
     }
 
     fn size_hint(&self) -> (usize, Option<usize>) {
-        (self.1, Some(self.1))
+        self.0.size_hint()
+    }
+}
+
+impl<T> DoubleEndedIterator for Iter<'_, T> {
+    #[inline]
+    fn next_back(&mut self) -> Option<Self::Item> {
+        self.0.next_back()
     }
 }
 

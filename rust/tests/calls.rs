@@ -509,15 +509,25 @@ fn trees() {
         last (v => v.last()) (w => w.last()) NOTHING
         index (v => (&v[0], &v[v.len() - 1])) (w => (&w[0], w.last().unwrap())) ". - - - - - -"
         chunks (v => v.chunks().fold(7, whole)) (w => w.chunks(128).fold(7, whole)) NOTHING
-        iter (v => { let mut left = v.iter(); (left.next(), left.size_hint(), left.len(), left.fold(7, sum)) })
-            (w => { let mut left = w.iter(); (left.next(), left.size_hint(), left.len(), left.fold(7, sum)) }) NOTHING
+        chunks (v => v.chunks().rev().fold(7, whole)) (w => w.chunks(128).rev().fold(7, whole)) NOTHING
+        iter (v => { let mut left = v.iter(); (left.next(), left.next_back(), left.size_hint(), left.len(), left.rfold(7, sum)) })
+            (w => { let mut left = w.iter(); (left.next(), left.next_back(), left.size_hint(), left.len(), left.rfold(7, sum)) })
+            NOTHING
         into_iter (v => (&*v).into_iter().fold(7, sum)) (w => w.iter().fold(7, sum)) NOTHING
         clone (v => v.clone().first().map(|item| item.0) == v.first().map(|item| item.0)) (_ => true) NOTHING
         set (v => v.set(0, item(9))) (w => w[0] = item(9))
             ". 0/1/0/0 4/1/1/0 0/1/0/0 0/1/0/1 128/1/2/1 128/1/3/2"
         try_set (v => v.try_set(0, item(9)).unwrap()) (w => w[0] = item(9))
             ". 0/1/0/0 4/1/1/0 0/1/0/0 0/1/0/1 128/1/2/1 128/1/3/2"
+        try_update (v => v.try_update(1, |item| { item.0 += 5; item.0 }).unwrap()) (w => { w[1].0 += 5; w[1].0 })
+            ". - 4/0/1/0 - - 128/0/2/1 128/0/3/2"
         extend (v => v.extend([8, 9].map(item))) (w => w.extend([8, 9].map(item)))
+            "0/0/1/0 0/0/1/0 4/0/1/0 0/0/2/1 - 44/0/2/1= 52/0/3/2="
+        replace_range (v => v.replace_range(1..2, &PAIR)) (w => drop(w.splice(1..2, PAIR.iter().cloned())))
+            ". 2/1/11/1 6/1/12/1 2/1/11/1 2/1/11/1 130/1/13/1 130/1/24/2"
+        try_replace_range (v => v.try_replace_range(1..2, &PAIR).unwrap()) (w => drop(w.splice(1..2, PAIR.iter().cloned())))
+            ". 2/1/11/1 6/1/12/1 2/1/11/1 2/1/11/1 130/1/13/1 130/1/24/2"
+        try_extend (v => v.try_extend([8, 9].map(item)).unwrap()) (w => w.extend([8, 9].map(item)))
             "0/0/1/0 0/0/1/0 4/0/1/0 0/0/2/1 - 44/0/2/1= 52/0/3/2="
         append (v => append(v, &pair)) (w => more(w)) "- 0/0/2/1 0/0/2/1= 0/0/2/1 0/0/2/1 0/0/2/1= 0/0/3/2="
         try_append (v => try_append(v, &pair)) (w => more(w)) "- 0/0/2/1 0/0/2/1= 0/0/2/1 0/0/2/1 0/0/2/1= 0/0/3/2="

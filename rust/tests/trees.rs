@@ -33,6 +33,26 @@ fn same(list: &EcoTree<Item>, model: &Vec<Item>) {
     assert!(list.len() == model.len() && list.is_empty() == model.is_empty());
     assert!(list.iter().eq(model) && list.iter().len() == model.len());
     assert!(list.chunks().flatten().eq(model) && list.chunks().all(|chunk| (1..=128).contains(&chunk.len())));
+    assert!(
+        list.iter().rev().eq(model.iter().rev())
+            && list.chunks().rev().flat_map(|chunk| chunk.iter().rev()).eq(model.iter().rev())
+    );
+    // From both ends in turn, in steps of other lengths.
+    let (mut ours, mut theirs) = (list.iter(), model.iter());
+    for step in (1..).map(|step| step % 37) {
+        assert_eq!((ours.nth(step), ours.len()), (theirs.nth(step), theirs.len()));
+        assert_eq!((ours.nth_back(step / 2), ours.size_hint()), (theirs.nth_back(step / 2), theirs.size_hint()));
+        if theirs.len() == 0 {
+            break;
+        }
+    }
+    assert_eq!((ours.next(), ours.next_back(), ours.next()), (None, None, None));
+    let (mut ours, mut left) = (list.chunks(), &model[..]);
+    while let (Some(first), last) = (ours.next(), ours.next_back()) {
+        assert!(left.starts_with(first) && left[first.len()..].ends_with(last.unwrap_or(&[])));
+        left = &left[first.len()..left.len() - last.map_or(0, <[Item]>::len)];
+    }
+    assert!(left.is_empty() && ours.next_back().is_none());
     assert_eq!((list.first(), list.last(), list.get(model.len())), (model.first(), model.last(), None));
     assert!(list.height() == 0 || 4_usize.pow(list.height() as u32) <= 4 * model.len());
     assert_eq!((hash(list), format!("{list:?}")), (hash(model), format!("{model:?}")));
@@ -52,7 +72,7 @@ fn edits_beside_a_vector() {
         for edit in 0..3 * most + 50 {
             let grows = below(most) >= model.len() / 2;
             let at = below(model.len() + 1);
-            match below(8) {
+            match below(10) {
                 0 if grows => (list.push(item(edit)), model.push(item(edit))),
                 1 | 2 if grows => (list.insert(at, item(edit)), model.insert(at, item(edit))),
                 3 if at < model.len() => (list.set(at, item(edit)), model[at] = item(edit)),
@@ -72,6 +92,15 @@ fn edits_beside_a_vector() {
                 7 if grows => {
                     let other = &model[..at.min(300)];
                     (list.append(&mut EcoTree::from(other)), model.append(&mut other.to_vec()))
+                }
+                8 if at < model.len() => {
+                    let was = list.try_update(at, |item| std::mem::replace(item.0.as_mut(), edit));
+                    (assert_eq!(was, Ok(std::mem::replace(&mut *model[at].0, edit))), ())
+                }
+                9 => {
+                    let (end, new) = (at.max(below(model.len() + 1)), below(if grows { 200 } else { 3 }));
+                    let new: Vec<Item> = (0..new).map(item).collect();
+                    (list.replace_range(at..end, &new), drop(model.splice(at..end, new)))
                 }
                 _ if at < model.len() => (assert_eq!(list.remove(at), model.remove(at)), ()),
                 _ => (assert_eq!(list.pop(), model.pop()), ()),
@@ -148,6 +177,9 @@ fn refused() {
     assert_eq!(list.try_insert(5001, 1).unwrap_err(), Rejected { error: Error::Index, value: 1 });
     assert_eq!(list.try_remove(5000), Err(Error::Index));
     assert_eq!(list.try_split_off(5001), Err(Error::Index));
+    assert_eq!(list.try_update(5000, |_| unreachable!()), Err(Error::Index));
+    assert_eq!(list.try_replace_range(4999..=5000, &[]), Err(Error::Index));
+    assert!(catch_unwind(AssertUnwindSafe(|| list.replace_range(5001.., &[]))).is_err());
     assert!(catch_unwind(AssertUnwindSafe(|| list.split_off(5001))).is_err());
     assert!(catch_unwind(AssertUnwindSafe(|| list.set(5000, 1))).is_err());
     assert!(catch_unwind(AssertUnwindSafe(|| list.insert(5001, 1))).is_err());
@@ -155,7 +187,7 @@ fn refused() {
     let two = EcoTree::from([1, 2]);
     assert!(list == all && two == [1, 2] && two != [1] && two != [1, 3]);
     let held = HELD.get();
-    let calls: [fn(&mut EcoTree<u64>) -> bool; 10] = [
+    let calls: [fn(&mut EcoTree<u64>) -> bool; 13] = [
         |list| list.try_set(2500, 7).is_err_and(|back| (back.value, back.error) == (7, Error::Memory)),
         |list| list.try_insert(2500, 7).is_err_and(|back| (back.value, back.error) == (7, Error::Memory)),
         |list| list.try_push(7).is_err_and(|back| (back.value, back.error) == (7, Error::Memory)),
@@ -164,6 +196,9 @@ fn refused() {
         |list| list.try_split_off(2500) == Err(Error::Memory),
         |list| list.try_truncate(2500) == Err(Error::Memory),
         |list| list.try_extend_from_slice(&[7; 300]) == Err(Error::Memory),
+        |list| list.try_update(2500, |number| *number = 7) == Err(Error::Memory),
+        |list| list.try_replace_range(2500..2600, &[7; 300]) == Err(Error::Memory),
+        |list| list.try_replace_range(..4999, &[]) == Err(Error::Memory),
         |list| {
             let mut other = list.clone();
             let is_refused = list.try_append(&mut other) == Err(Error::Memory);

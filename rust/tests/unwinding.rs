@@ -4,7 +4,7 @@
 mod allocator;
 
 use allocator::HELD;
-use ecow::{EcoVec, eco_format};
+use ecow::{EcoTree, EcoVec, eco_format};
 use std::cell::{Cell, RefCell};
 use std::collections::HashSet;
 use std::panic::{AssertUnwindSafe, catch_unwind, set_hook};
@@ -147,17 +147,92 @@ fn each(point: &'static LocalKey<Cell<usize>>) {
     assert!(unwound > 100, "{unwound}");
 }
 
+type TreeCall = (&'static str, fn(&mut EcoTree<Item>));
+
+const EACH_OF_TREES: &[TreeCall] = &[
+    ("push", |list| list.push(Item::new())),
+    ("insert", |list| list.insert(3, Item::new())),
+    ("insert, behind", |list| list.insert(100, Item::new())),
+    ("set", |list| list.set(3, Item::new())),
+    ("update", |list| {
+        list.try_update(3, |item| {
+            unwinds(&CALLS);
+            *item = Item::new();
+        })
+        .unwrap()
+    }),
+    ("remove", |list| drop(list.remove(3))),
+    ("remove, of a leaf of one", |list| drop(list.remove(299))),
+    ("pop", |list| drop(list.pop())),
+    ("split_off", |list| drop(list.split_off(5))),
+    ("truncate", |list| list.truncate(133)),
+    ("clear", |list| list.clear()),
+    ("append", |list| list.append(&mut items(9).collect())),
+    ("extend", |list| list.extend(items(150))),
+    ("extend_from_slice", |list| list.extend_from_slice(&items(7).collect::<Vec<_>>())),
+    ("extend_from_slice of many", |list| list.extend_from_slice(&items(300).collect::<Vec<_>>())),
+    ("replace_range", |list| list.replace_range(3..9, &items(4).collect::<Vec<_>>())),
+    ("from a slice", |list| *list = EcoTree::from(&items(200).collect::<Vec<_>>()[..])),
+    ("from a vector", |list| *list = EcoTree::from(items(20).collect::<EcoVec<_>>())),
+    ("collect", |list| *list = items(200).collect()),
+    ("drop", |list| *list = EcoTree::new()),
+    ("equality", |list| assert!(*list != items(300).collect::<EcoTree<_>>() || list.len() == 300)),
+    ("printing", |list| assert!(eco_format!("{list:?}{:?}", list.clone()).len() > 20)),
+];
+
+/// The same of lists in trees, of 299 elements and one in a leaf of its own.
+fn each_of_trees(point: &'static LocalKey<Cell<usize>>) {
+    set_hook(Box::new(|_| {}));
+    let mut unwound = 0;
+    for &(name, call) in EACH_OF_TREES {
+        let points = (1..8).chain([65, 127, 128, 129, 170, 300]);
+        for (shared, which) in
+            [false, true].into_iter().flat_map(|shared| points.clone().map(move |which| (shared, which)))
+        {
+            let held = HELD.get();
+            let mut list: EcoTree<Item> = items(299).collect();
+            list.append(&mut items(1).collect());
+            let other = shared.then(|| list.clone());
+            point.set(which);
+            let unwinds = catch_unwind(AssertUnwindSafe(|| call(&mut list))).is_err();
+            unwound += unwinds as usize;
+            point.set(0);
+            let grows = ["extend", "append"].iter().any(|call| name.starts_with(call));
+            let keeps_all = unwinds && std::ptr::eq(point, &CLONES) && !grows;
+            assert!(!keeps_all || list.len() == 300, "{name} at {which}");
+            assert!(other.as_ref().is_none_or(|other| other.len() == 300));
+            for list in [Some(&list), other.as_ref()].into_iter().flatten() {
+                assert_eq!(list.iter().count(), list.len(), "{name} at {which}");
+                for (at, item) in list.iter().enumerate() {
+                    assert!(item.0 == *item.1 && LIVE.with_borrow(|live| live.contains(&item.0)), "{name} at {which}");
+                    assert!(std::ptr::eq(item, &list[at]), "{name} at {which}");
+                }
+            }
+            list.push(Item::new());
+            drop((list, other));
+            assert!(!TWICE.get(), "{name} at {which}: dropped twice");
+            let leaked = (LIVE.with_borrow_mut(|live| live.drain().count()), HELD.get() - held);
+            // As above: the vector is such an argument.
+            assert!(leaked == (0, 0) || name == "from a vector" && which <= 20, "{name} at {which}: {leaked:?} leak");
+        }
+    }
+    assert!(unwound > 100, "{unwound}");
+}
+
 #[test]
 fn clones_that_unwind() {
     each(&CLONES);
+    each_of_trees(&CLONES);
 }
 
 #[test]
 fn drops_that_unwind() {
     each(&DROPS);
+    each_of_trees(&DROPS);
 }
 
 #[test]
 fn closures_iterators_and_comparisons_that_unwind() {
     each(&CALLS);
+    each_of_trees(&CALLS);
 }
