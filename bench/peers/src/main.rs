@@ -8,6 +8,7 @@ use bytes::{Bytes, BytesMut};
 use dogged::DVec;
 use im_rc::Vector;
 use kstring::KString;
+use proved::EcoTree;
 use std::alloc::{GlobalAlloc, Layout, System};
 use std::hint::black_box;
 use std::ops::Deref;
@@ -17,6 +18,8 @@ use std::time::Instant;
 
 const LEN: usize = 100_000;
 const EDITS: usize = 1_000;
+/// Of a text that is copied whole: 100,000 versions would take 150 GiB.
+const EDITS_OF_COPIES: usize = 100;
 const CLONES: usize = 1_000;
 const APPENDS: usize = 100;
 const TEN: &str = "ten letter";
@@ -161,7 +164,7 @@ fn lists<L: Clone + 'static>(
     table: &mut Table,
     new: fn() -> L,
     push: impl Fn(&mut L, i64) + Copy + 'static,
-    place: impl Fn(&mut L, usize) -> &mut i64 + Copy + 'static,
+    set: impl Fn(&mut L, usize, i64) + Copy + 'static,
     sum: impl Fn(&L) -> i64 + Copy + 'static,
 ) {
     let make = move || {
@@ -169,7 +172,7 @@ fn lists<L: Clone + 'static>(
         (0..LEN as i64).for_each(|number| push(&mut list, number));
         list
     };
-    let edit = move |list: &mut L, at: usize| *place(list, at) = LEN as i64;
+    let edit = move |list: &mut L, at: usize| set(list, at, LEN as i64);
     let versions = move |first: L, places: &[usize]| {
         let mut versions = Vec::with_capacity(EDITS + 1);
         versions.push(first);
@@ -213,10 +216,48 @@ fn lists<L: Clone + 'static>(
     });
 }
 
+/// Adds the program of an editor: lines of a text are replaced all over, so often, and each version
+/// is kept for undo.
+fn undo<L: Clone + 'static, T: Deref<Target = str> + 'static>(
+    table: &mut Table,
+    edits: usize,
+    line: fn(&str) -> T,
+    push: impl Fn(&mut L, T) + Copy + 'static,
+    set: impl Fn(&mut L, usize, T) + Copy + 'static,
+    get: impl for<'a> Fn(&'a L, usize) -> &'a str + Copy + 'static,
+    new: fn() -> L,
+) {
+    let make = move || {
+        let mut text = new();
+        (0..LEN).for_each(|number| push(&mut text, line(&ALPHABETS[number % 26..][..TEN.len()])));
+        text
+    };
+    let edited = move |mut text: L| {
+        let mut versions = Vec::with_capacity(edits);
+        for at in places(edits) {
+            versions.push(text.clone());
+            set(&mut text, at, line(black_box(TEN)));
+        }
+        for (at, version) in places(edits).into_iter().zip(&versions) {
+            assert_eq!([get(version, at), get(&text, at)], [&ALPHABETS[at % 26..][..TEN.len()], TEN]);
+        }
+        (text, versions)
+    };
+    table.add("100,000 edits of a text of 100,000 lines, each kept: an edit", move || {
+        let text = make();
+        malloc_trim(0);
+        timed(edits, || edited(text)).0
+    });
+    table.add("the same: memory of an edit, bytes", move || {
+        let text = make();
+        held(|| edited(text)).0 / edits as f64
+    });
+}
+
 /// Adds the task of lists that are compared.
-fn equality<L: Clone + PartialEq + From<Vec<i64>>>(table: &mut Table) {
-    table.add("a list compared with its clone", || {
-        let list = L::from((0..LEN as i64).collect());
+fn equality<L: Clone + PartialEq + 'static>(table: &mut Table, make: fn(Vec<i64>) -> L) {
+    table.add("a list compared with its clone", move || {
+        let list = make((0..LEN as i64).collect());
         let clone = list.clone();
         repeated(CLONES, || assert!(black_box(&list) == black_box(&clone)))
     });
@@ -268,10 +309,19 @@ macro_rules! ecow {
             table,
             EcoVec::new,
             EcoVec::push,
-            |list, at| &mut list.make_mut()[at],
+            |list, at, number| list.make_mut()[at] = number,
             |list| list.iter().sum(),
         );
-        equality::<EcoVec<i64>>(table);
+        undo(
+            table,
+            EDITS_OF_COPIES,
+            |line| EcoString::from(line),
+            EcoVec::push,
+            |text, at, line| text.make_mut()[at] = line,
+            |text, at| &text[at],
+            EcoVec::new,
+        );
+        equality(table, EcoVec::from);
         texts(table, |letters| EcoString::from(letters));
         appends(table, EcoString::push_str);
     }};
@@ -281,11 +331,39 @@ fn main() {
     let rounds = std::env::args().nth(1).map_or(15, |rounds| rounds.parse().expect("ROUNDS"));
     let mut table = Table::default();
     ecow!(table, "This crate", proved);
+    let tree = table.column("Its `EcoTree`");
+    lists(tree, EcoTree::new, EcoTree::push, EcoTree::set, |list| list.chunks().flatten().sum());
+    undo(
+        tree,
+        LEN,
+        |line| proved::EcoString::from(line),
+        EcoTree::push,
+        EcoTree::set,
+        |text, at| &text[at],
+        EcoTree::new,
+    );
+    equality(tree, |numbers| numbers.into_iter().collect::<EcoTree<i64>>());
+
     ecow!(table, "The original", original);
 
     let std = table.column("`Vec`, `String`");
-    lists(std, Vec::new, Vec::push, |list, at| &mut list[at], |list| list.iter().sum());
-    equality::<Vec<i64>>(std);
+    lists(
+        std,
+        Vec::new,
+        Vec::push,
+        |list, at, number| list[at] = number,
+        |list| list.iter().sum(),
+    );
+    undo(
+        std,
+        EDITS_OF_COPIES,
+        |line| String::from(line),
+        Vec::push,
+        |text, at, line| text[at] = line,
+        |text, at| &text[at],
+        Vec::new,
+    );
+    equality(std, |numbers| numbers);
     texts(std, |letters| String::from(letters));
     appends(std, String::push_str);
 
@@ -294,23 +372,57 @@ fn main() {
         shared,
         Rc::<Vec<i64>>::default,
         |list, number| Rc::make_mut(list).push(number),
-        |list, at| &mut Rc::make_mut(list)[at],
+        |list, at, number| Rc::make_mut(list)[at] = number,
         |list| list.iter().sum(),
     );
-    equality::<Rc<Vec<i64>>>(shared);
+    undo(
+        shared,
+        EDITS_OF_COPIES,
+        |line| Rc::<str>::from(line),
+        |text, line| Rc::make_mut(text).push(line),
+        |text, at, line| Rc::make_mut(text)[at] = line,
+        |text, at| &text[at],
+        Rc::<Vec<_>>::default,
+    );
+    equality(shared, Rc::new);
     texts(shared, |letters| Rc::<str>::from(letters));
 
     let tree = table.column("`im_rc::Vector`");
-    lists(tree, Vector::new, Vector::push_back, |list, at| &mut list[at], |list| list.iter().sum());
-    equality::<Vector<i64>>(tree);
+    lists(
+        tree,
+        Vector::new,
+        Vector::push_back,
+        |list, at, number| list[at] = number,
+        |list| list.iter().sum(),
+    );
+    undo(
+        tree,
+        LEN,
+        |line| Rc::<str>::from(line),
+        Vector::push_back,
+        |text, at, line| text[at] = line,
+        |text, at| &text[at],
+        Vector::new,
+    );
+    equality(tree, Vector::from);
 
     // It has no iterator and no equality.
+    let tree = table.column("`dogged::DVec`");
     lists(
-        table.column("`dogged::DVec`"),
+        tree,
         DVec::new,
         DVec::push,
-        |list, at| &mut list[at],
+        |list, at, number| list[at] = number,
         |list| (0..list.len()).map(|at| list[at]).sum(),
+    );
+    undo(
+        tree,
+        LEN,
+        |line| Rc::<str>::from(line),
+        DVec::push,
+        |text, at, line| text[at] = line,
+        |text, at| &text[at],
+        DVec::new,
     );
 
     texts(table.column("`KString`"), KString::from_ref);
