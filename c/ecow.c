@@ -544,11 +544,14 @@ ecow_status ecow_value_field_name(const ecow_value *value, size_t index, ecow_te
     PUT_TEXT(name, ecow_proved_value_field_name(&place, index, &out));
 }
 
-/* How a field lies in memory: its name, its value, and the two links of the index of names. */
+/* How a field lies in memory: whether it is there or was removed, its name, its value, what the index
+ * of names has of it, and in the first one the places of those that were removed, in rising order. */
 typedef struct field {
+    uint64_t is_there;
     ecow_text name;
     ecow_value value;
-    uint64_t links[2];
+    uint64_t links[2], is_repeated;
+    const ecow_head *gaps;
 } field;
 
 /* Behind the word with its kind, a value has its text, or the word of its list or fields. This is the
@@ -557,11 +560,23 @@ static const ecow_head *head_of(const ecow_value *value) {
     return (const ecow_head *)(uintptr_t)value->word[1];
 }
 
+/* The field at an index below the length: as many places further as there are gaps up to it. */
+static const field *field_of(const ecow_value *value, size_t index) {
+    const field *fields = head_of(value)->items;
+    size_t low = 0, high = fields->gaps ? fields->gaps->len : 0;
+    while (low < high) {
+        const size_t middle = low + (high - low) / 2;
+        const bool is_before = ((const uint64_t *)fields->gaps->items)[middle] - middle <= index;
+        *(is_before ? &low : &high) = middle + is_before;
+    }
+    return &fields[index + low];
+}
+
 /* The item or the field's value at an index below the length. */
 static const ecow_value *part_of(const ecow_value *value, size_t index) {
-    const void *parts = head_of(value)->items;
-    return ecow_value_kind(value) == ECOW_KIND_LIST ? (const ecow_value *)parts + index
-                                                    : &((const field *)parts)[index].value;
+    return ecow_value_kind(value) == ECOW_KIND_LIST
+               ? (const ecow_value *)head_of(value)->items + index
+               : &field_of(value, index)->value;
 }
 
 const ecow_value *ecow_value_peek(const ecow_value *value, size_t index) {
@@ -582,7 +597,7 @@ const ecow_value *ecow_value_peek_field(const ecow_value *value, const char *nam
 const ecow_text *ecow_value_peek_name(const ecow_value *value, size_t index) {
     const bool is_there =
         ecow_value_kind(value) == ECOW_KIND_FIELDS && index < ecow_value_len(value);
-    return is_there ? &((const field *)head_of(value)->items)[index].name : NULL;
+    return is_there ? &field_of(value, index)->name : NULL;
 }
 
 const ecow_text *ecow_value_peek_text(const ecow_value *value) {

@@ -480,8 +480,9 @@ impl EqualPairs {
                 if fields.items.len() != other.items.len() {
                     return false;
                 }
-                for (entry, other) in fields.items.entries.as_slice().iter().zip(other.items.entries.as_slice()) {
-                    let (field, other) = (&entry.field, &other.field);
+                let fields = fields.items.entries.as_slice().iter().filter_map(|entry| entry.field.as_ref());
+                let others = other.items.entries.as_slice().iter().filter_map(|entry| entry.field.as_ref());
+                for (field, other) in fields.zip(others) {
                     if field.name != other.name || !self.compare(&field.value, &other.value) {
                         return false;
                     }

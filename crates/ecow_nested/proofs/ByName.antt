@@ -1,5 +1,5 @@
 -- What a name means in fields: the value of the first field that has it.
-use Rattle.std.proofs.Common.{◌≡◌, ◌≢◌, ℕ, zero, suc, ◌+◌, ◌≤◌, Bool, true, false, cond, List, [], ◌∷◌, ◌++◌, length, drop, slice_get, Result, Ok, Option, Some, None, refl, sym, ap, ◌∙◌, arith, IsUtf8}
+use Rattle.std.proofs.Common.{◌≡◌, ◌≢◌, ℕ, zero, suc, ◌+◌, ◌≤◌, Bool, true, false, cond, List, [], ◌∷◌, ◌++◌, length, drop, slice_get, Ok, Option, Some, None, refl, sym, ap, ◌∙◌, arith, IsUtf8}
 use Rattle.std.specs.Prelude.{find, filter, max}
 use Rattle.std.specs.Cmp.Lexicographic.{bytes_decides}
 use Rattle.std.specs.Option.{option_or, option_and_then, option_map}
@@ -10,7 +10,6 @@ use Rattle.std.proofs.lemmas.Str.{encodes-chars}
 use Rattle.ecow_nested.specs.Names.{has_name, how_many}
 use Rattle.ecow_nested.specs.Values.{fields_of, field_of, look_up, value_in, new_field, with_field, without_field, EditsFields}
 use Rattle.ecow_nested.specs.declared.fields.Field.{Field}
-use Rattle.ecow_nested.specs.declared.refusal.Refusal.{Refusal}
 use Rattle.ecow_nested.specs.declared.value.Value.{Value}
 
 other_bytes : (name other : List ℕ) → name ≢ other → bytes_eq name other ≡ false

@@ -1,12 +1,13 @@
 -- What a change of a list, or of fields, makes of the largest depth of the parts.
-use Rattle.std.proofs.Common.{arith, ◌≡◌, ◌≤◌, ◌<◌, ◌+◌, ℕ, zero, suc, max, true, false, cond, List, [], ◌∷◌, ◌++◌, map, length, take, get_or, slice_get, slice_set, Some, refl, ap, ◌∙◌}
+use Rattle.std.proofs.Common.{arith, ◌≡◌, ◌≤◌, ◌<◌, ◌+◌, ℕ, zero, suc, max, true, false, cond, List, [], ◌∷◌, ◌++◌, map, length, take, get_or, slice_get, slice_set, None, Some, refl, ap, ◌∙◌}
 use Rattle.std.proofs.lemmas.Option.{none-some, same_Some}
 use Rattle.std.specs.List.{insert, remove}
+use Rattle.std.specs.Prelude.{Option}
 use Rattle.std.proofs.lemmas.List.{take_all}
 use Rattle.ecow_nested.specs.Depths.{largest}
 use Rattle.ecow_nested.specs.Names.{has_name}
-use Rattle.ecow_nested.specs.Values.{deepest_field, depth_of, field_depth, with_field, without_field}
-use Rattle.ecow_nested.specs.Index.{fields_in}
+use Rattle.ecow_nested.specs.Values.{deepest_field, depth_of, field_depth, slot_depth, with_field, without_field}
+use Rattle.ecow_nested.specs.Index.{fields_in, present, slots_in}
 use Rattle.ecow_nested.specs.declared.fields.Entry.{Entry}
 use Rattle.ecow_nested.specs.declared.fields.Field.{Field}
 use Rattle.ecow_nested.specs.declared.value.Value.{Value}
@@ -86,7 +87,17 @@ without_less name (f ∷ fs) =
       | false ↦ omega (arith, without_less name fs)
     ]
 
+slots_depth : (slots : List (Option (Field Value)))
+    → largest (map slot_depth slots) ≡ deepest_field (present slots)
+slots_depth [] = refl
+slots_depth (None ∷ slots) = omega (arith, slots_depth slots)
+slots_depth (Some f ∷ slots) = ap (max (field_depth f)) (slots_depth slots)
+
+depths_along : (es : List (Entry Value))
+    → map (λ e. slot_depth e.field) es ≡ map slot_depth (slots_in es)
+depths_along [] = refl
+depths_along (e ∷ es) = ap (λ ns. slot_depth e.field ∷ ns) (depths_along es)
+
 pub entry_depths : (entries : List (Entry Value))
-    → largest (map (λ e. field_depth e.field) entries) ≡ deepest_field (fields_in entries)
-entry_depths [] = refl
-entry_depths (e ∷ es) = ap (max (field_depth e.field)) (entry_depths es)
+    → largest (map (λ e. slot_depth e.field) entries) ≡ deepest_field (fields_in entries)
+entry_depths entries = ap largest (depths_along entries) ∙ slots_depth (slots_in entries)

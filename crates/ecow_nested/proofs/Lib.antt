@@ -1,8 +1,11 @@
 pub mod ByName
 pub mod Depths
 pub mod Equality
+pub mod Gaps
+pub mod Held
 pub mod Index
 pub mod Lookups
 pub mod Parts
 pub mod Paths
+pub mod Positions
 pub mod Reflexive

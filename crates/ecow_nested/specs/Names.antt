@@ -1,9 +1,6 @@
 -- Fields by their names.
 use Rattle.std.specs.Prelude.{ℕ, Bool, List, ◌≡◌, Some, length, filter, slice_get, slice_set}
 use Rattle.ecow_base.specs.declared.plain.PlainText.{PlainText}
-use Rattle.std.specs.Borrow.{MutBor}
-use Rattle.std.specs.Fn.{Once}
-use Rattle.std.specs.Fn.{FnOnceTakesAtMut, FnOnceReturnsAtMut}
 use Rattle.std.specs.Str.{bytes_eq, encode_utf8_all}
 use Rattle.ecow_nested.specs.declared.fields.Field.{Field}
 
@@ -24,16 +21,3 @@ abbrev pub Revalues : {T : Type 0} → List (Field T) → ℕ → T → T → Li
 Revalues {T} old index was is new =
     (name : PlainText) × (slice_get old index ≡ Some (named name was))
     × (new ≡ slice_set old index (named name is))
-
-module _ {F T R : Type 0} (g : Once F (MutBor T × Unit {0}) (R × (MutBor T × Unit {0})))
-    (f : F) where
-  -- f takes the value of the field at the index
-  abbrev pub TakesValueAt : List (Field T) → ℕ → Type 0
-  TakesValueAt fields index = (field : Field T) → slice_get fields index ≡ Some field
-      → FnOnceTakesAtMut g f field.value
-
-  -- f answered when it was called on the value at the index, and new has there what f left
-  abbrev pub UpdatesValueAt : ℕ → List (Field T) → R → List (Field T) → Type 0
-  UpdatesValueAt index old answer new = (field : Field T) × (after : T)
-      × (slice_get old index ≡ Some field) × FnOnceReturnsAtMut g f field.value answer after
-      × (new ≡ slice_set old index (named field.name after))

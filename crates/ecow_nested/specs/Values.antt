@@ -67,6 +67,10 @@ deepest items = largest (map depth_of items)
 abbrev pub field_depth : Field Value → ℕ
 field_depth field = depth_of field.value
 
+-- the same of a field that may be missing
+abbrev pub slot_depth : Option (Field Value) → ℕ
+slot_depth slot = elim slot [ None ↦ 0 | Some field ↦ field_depth field ]
+
 abbrev pub deepest_field : List (Field Value) → ℕ
 deepest_field fields = largest (map field_depth fields)
 

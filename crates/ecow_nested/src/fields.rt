@@ -3,9 +3,11 @@ ghost use Rattle.std.specs.Prelude.{◌≡◌, ◌≤◌, ◌<◌, [], length, s
 ghost use Rattle.ecow_nested.specs.Names.{has_name};
 
 mod edits;
+pub(crate) mod gaps;
 pub(crate) mod index;
 
-use crate::fields::index::{is_dropped, scan, seek};
+use crate::fields::gaps::{gaps_of, index_of_place, place_of_index};
+use crate::fields::index::find_place;
 use ecow_list::EcoVec;
 use ecow_string::EcoString;
 use std::alloc::{AllocError, Global};
@@ -18,20 +20,25 @@ pub struct Field<T> {
     pub value: T,
 }
 
-/// A field, and the indexes of two later fields, where the search for a name continues; 0 if there
-/// is none. The type is public because `Fields` holds it.
+/// A field, or the gap that a removed one left. The type is public because `Fields` holds it.
 #[derive(Drop)]
 pub struct Entry<T> {
-    pub(crate) field: Field<T>,
+    pub(crate) field: Option<Field<T>>,
+    /// The places of two later entries, where the search for a name continues; 0 if there is none.
     pub(crate) left: usize,
     pub(crate) right: usize,
+    /// Whether a later field has the same name.
+    pub(crate) again: bool,
+    /// In the first entry, the places of all gaps, in rising order.
+    pub(crate) gaps: EcoVec<usize>,
 }
 
 /// Fields in order. If a name occurs twice, calls by that name mean the first field.
 ///
-/// From 16 fields on, an index finds a name without looking at each field. A removal drops the
-/// index, so that it takes no longer than without one, and calls look at each field again. After
-/// some more fields were appended, the index is made anew.
+/// From 16 fields on, an index finds a name without looking at each field. There a removed field
+/// leaves a gap. Once a quarter of the places are gaps, all are closed, and the index is made anew.
+/// If a field is removed whose name comes again, the index is dropped, and calls look at each
+/// field. After some more fields were appended, the index is made anew.
 ///
 /// ```
 /// let mut fields = Fields::new(alloc);
@@ -49,13 +56,13 @@ pub const INDEXED: usize = 16;
 impl<T> Model for Fields<T> {
     ghost use Rattle.std.specs.Prelude.{List};
     ghost use Rattle.ecow_nested.specs.declared.fields.Field.{Field};
-    ghost use Rattle.ecow_nested.specs.Index.{fields_in, IsFoundFrom};
+    ghost use Rattle.ecow_nested.specs.Index.{fields_in, IsFoundFrom, NotesGaps};
 
     ghost Value = { List (Field T) };
 
     ghost view = { λ a. fields_in a.entries };
 
-    ghost invariant = { λ a. IsFoundFrom 16 a.entries };
+    ghost invariant = { λ a. IsFoundFrom 16 a.entries × NotesGaps a.entries };
 }
 
 impl<T: Drop> Fields<T> {
@@ -78,7 +85,8 @@ impl<T: Drop> Fields<T> {
     pub fn len(&self) -> usize
         ensures { result ≡ length self.now }
     {
-        self.entries.len()
+        let entries = self.entries.as_slice();
+        entries.len() - gaps_of(entries).len()
     }
 
     /// The field at `index`; `None` if there are no more than `index` fields.
@@ -86,10 +94,10 @@ impl<T: Drop> Fields<T> {
         ensures { MatchOption result (length self.now ≤ index)
             (λ field. (index < length self.now) × (slice_get self.now index ≡ Some field.now)) }
     {
-        match self.entries.as_slice().get(index) {
-            Some(entry) => Some(&entry.field),
-            None => None,
+        if index < self.len() {
+            return Some(self.field_at(index));
         }
+        None
     }
 }
 
@@ -99,7 +107,11 @@ impl<T> Fields<T> {
         requires { index < length self.now }
         ensures { slice_get self.now index ≡ Some result.now }
     {
-        &self.entries.as_slice()[index].field
+        let entries = self.entries.as_slice();
+        match &entries[place_of_index(entries, index)].field {
+            Some(field) => field,
+            None => unreachable!(),
+        }
     }
 
     /// The index of the first field with this name.
@@ -107,12 +119,9 @@ impl<T> Fields<T> {
         ensures { result ≡ position (has_name name.now) self.now }
     {
         let entries = self.entries.as_slice();
-        if entries.len() < INDEXED || is_dropped(entries) {
-            return scan(entries, name);
-        }
-        match seek(entries, name) {
-            Ok(at) => Some(at),
-            Err(_) => None,
+        match find_place(entries, name) {
+            Some(place) => Some(index_of_place(entries, place)),
+            None => None,
         }
     }
 }

@@ -1,6 +1,6 @@
 //! `Value`, and what it tells of itself.
 ghost use Rattle.std.specs.Prelude.{◌≡◌, ◌<◌, ◌≤◌, MatchOption, MatchResult, None, Some};
-ghost use Rattle.ecow_nested.specs.Values.{depth_of, field_depth, kind_of, truth_of, number_of, real_of, text_of, items_of, fields_of};
+ghost use Rattle.ecow_nested.specs.Values.{depth_of, kind_of, truth_of, number_of, real_of, text_of, items_of, fields_of, slot_depth};
 
 mod equality;
 mod fields;
@@ -74,10 +74,13 @@ impl Part for Value {
 }
 
 impl Part for Entry<Value> {
-    ghost depth_in = { λ entry. field_depth entry.field };
+    ghost depth_in = { λ entry. slot_depth entry.field };
 
     fn depth_in(&self) -> u32 {
-        self.field.value.depth()
+        match &self.field {
+            Some(field) => field.value.depth(),
+            None => 0,
+        }
     }
 }
 

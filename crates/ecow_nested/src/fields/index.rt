@@ -6,11 +6,13 @@
 //! the name itself. The search ends at the first entry with that name, or where there is no link;
 //! there the entry of a new name is linked. So a search takes about as many steps as the number of
 //! names has bits. For any choice of names it takes at most 72 steps more than the name has bits.
-ghost use Rattle.std.specs.Prelude.{◌≡◌, ◌+◌, ◌-◌, ◌<◌, MatchResult, Some, length, position, take, true};
-ghost use Rattle.ecow_nested.specs.Index.{Ascends, IsFoundFrom, IsIndexed, bare, end_of, fields_in, hash_of, is_dropped, link_of, node_of, nodes_in, turns, with_link};
-ghost use Rattle.ecow_nested.specs.Names.{has_name};
+//!
+//! A gap has no name, and keeps its links. An entry of a name that an earlier one has is not
+//! linked; the earlier one is marked. So a marked entry can't become a gap while there is an index.
+ghost use Rattle.std.specs.Prelude.{◌≡◌, ◌+◌, ◌-◌, ◌<◌, MatchResult, Some, length, nat_lt, position, take, true, ◌||◌};
+ghost use Rattle.ecow_nested.specs.Index.{Ascends, IsFoundFrom, IsIndexed, bare, bares_in, bears, end_of, hash_of, is_dropped, link_of, node_of, nodes_in, turns, with_again, with_link};
 
-use crate::fields::Entry;
+use crate::fields::{Entry, INDEXED};
 
 /// The hash of a name. Over many names, each of its upper bits is 0 about as often as 1.
 fn hash(name: &[u8]) -> u64
@@ -40,7 +42,7 @@ fn turns_right(name: &[u8], hash: u64, depth: usize) -> bool
 /// There is no index if the left link of the first entry is greater than this.
 const DROPPED: usize = 1 << 63;
 
-/// How many fields are appended after a removal until the index is made anew.
+/// How many fields are appended after the index was dropped until it is made anew.
 const PENDING: usize = 64;
 
 impl<T> Entry<T> {
@@ -51,12 +53,30 @@ impl<T> Entry<T> {
         if right { self.right } else { self.left }
     }
 
-    /// Removes both links.
+    /// Whether there is a field with this name.
+    fn bears(&self, name: &str) -> bool
+        ensures { result ≡ bears name.now (node_of self.now) }
+    {
+        match &self.field {
+            Some(field) => field.name.as_str() == name,
+            None => false,
+        }
+    }
+
+    /// Removes both links, and the mark that a later field has the same name.
     fn clear_links(&mut self)
         ensures { self.new ≡ bare self.old }
     {
         self.left = 0;
         self.right = 0;
+        self.again = false;
+    }
+
+    /// Marks that a later field has the same name.
+    fn mark_again(&mut self)
+        ensures { self.new ≡ with_again self.old }
+    {
+        self.again = true;
     }
 
     /// Links the entry at `at` on a side.
@@ -71,18 +91,30 @@ impl<T> Entry<T> {
     }
 }
 
-/// The index of the first entry with this name, found by looking at each entry.
-pub(crate) fn scan<T>(entries: &[Entry<T>], name: &str) -> Option<usize>
-    ensures { result ≡ position (λ entry. has_name name.now entry.field) entries.now }
+/// The place of the first entry with this name, found by looking at each entry.
+fn scan<T>(entries: &[Entry<T>], name: &str) -> Option<usize>
+    ensures { result ≡ position (λ entry. bears name.now (node_of entry)) entries.now }
 {
-    entries
-        .iter()
-        .position(|entry| entry.field.name.as_str() == name)
+    entries.iter().position(|entry| entry.bears(name))
 }
 
-/// The index of the first entry with this name. If there is none, the entry and its side where an
+/// The place of the first entry with this name.
+pub(crate) fn find_place<T>(entries: &[Entry<T>], name: &str) -> Option<usize>
+    requires { IsFoundFrom INDEXED entries.now }
+    ensures { result ≡ position (λ entry. bears name.now (node_of entry)) entries.now }
+{
+    if lacks_index(entries) {
+        return scan(entries, name);
+    }
+    match seek(entries, name) {
+        Ok(at) => Some(at),
+        Err(_) => None,
+    }
+}
+
+/// The place of the first entry with this name. If there is none, the entry and its side where an
 /// entry with this name would be linked.
-pub(crate) fn seek<T>(entries: &[Entry<T>], name: &str) -> Result<usize, (usize, bool)>
+fn seek<T>(entries: &[Entry<T>], name: &str) -> Result<usize, (usize, bool)>
     requires some { 0 < length entries.now }
     requires ascends { Ascends (nodes_in entries.now) }
     ensures end { end_of (nodes_in entries.now) name.now ≡ Some result }
@@ -95,7 +127,7 @@ pub(crate) fn seek<T>(entries: &[Entry<T>], name: &str) -> Result<usize, (usize,
     let mut depth = 0;
     loop {
         let entry = &entries[at];
-        if entry.field.name.as_str() == name {
+        if entry.bears(name) {
             return Ok(at);
         }
         let right = turns_right(bytes, hash, depth);
@@ -108,25 +140,37 @@ pub(crate) fn seek<T>(entries: &[Entry<T>], name: &str) -> Result<usize, (usize,
     }
 }
 
-/// Links the entry at `count` where the search for its name ends among the entries before it.
+/// Links the entry at `count` where the search for its name ends among the entries before it. If
+/// one of these has the name, marks that one instead.
 fn include<T>(entries: &mut [Entry<T>], count: usize)
     requires within { count < length entries.old }
     requires before { IsIndexed (nodes_in (take count entries.old)) }
     ensures indexed { IsIndexed (nodes_in (take (count + 1) entries.new)) }
-    ensures fields { fields_in entries.new ≡ fields_in entries.old }
+    ensures same { bares_in entries.new ≡ bares_in entries.old }
 {
     entries[count].clear_links();
     if count == 0 {
         return;
     }
     let shared = &entries[..];
-    if let Err((at, right)) = seek(&shared[..count], shared[count].field.name.as_str()) {
-        entries[at].set_link(right, count);
+    let Some(field) = &shared[count].field else {
+        return;
+    };
+    match seek(&shared[..count], field.name.as_str()) {
+        Ok(at) => entries[at].mark_again(),
+        Err((at, right)) => entries[at].set_link(right, count),
     }
 }
 
+/// Whether there is no index.
+pub(crate) fn lacks_index<T>(entries: &[Entry<T>]) -> bool
+    ensures { result ≡ (nat_lt (length entries.now) INDEXED || is_dropped entries.now) }
+{
+    entries.len() < INDEXED || is_dropped(entries)
+}
+
 /// Whether the index is dropped.
-pub(crate) fn is_dropped<T>(entries: &[Entry<T>]) -> bool
+fn is_dropped<T>(entries: &[Entry<T>]) -> bool
     ensures { result ≡ is_dropped entries.now }
 {
     match entries {
@@ -136,10 +180,10 @@ pub(crate) fn is_dropped<T>(entries: &[Entry<T>]) -> bool
 }
 
 /// Completes the index, which the entries before `count` have already.
-fn index_from<T>(entries: &mut [Entry<T>], count: usize)
+pub(crate) fn index_from<T>(entries: &mut [Entry<T>], count: usize)
     requires before { IsIndexed (nodes_in (take count entries.old)) }
     ensures indexed { IsIndexed (nodes_in entries.new) }
-    ensures fields { fields_in entries.new ≡ fields_in entries.old }
+    ensures same { bares_in entries.new ≡ bares_in entries.old }
     ensures len { length entries.new ≡ length entries.old }
 {
     for at in count..entries.len() {
@@ -152,7 +196,7 @@ pub(crate) fn include_last<T>(entries: &mut [Entry<T>], few: usize)
     requires some { 0 < length entries.old }
     requires found { IsFoundFrom few (take (length entries.old - 1) entries.old) }
     ensures found { IsFoundFrom few entries.new }
-    ensures fields { fields_in entries.new ≡ fields_in entries.old }
+    ensures same { bares_in entries.new ≡ bares_in entries.old }
     ensures len { length entries.new ≡ length entries.old }
 {
     let last = entries.len() - 1;
@@ -169,10 +213,10 @@ pub(crate) fn include_last<T>(entries: &mut [Entry<T>], few: usize)
     }
 }
 
-/// Drops the index, whose links are wrong after a removal.
+/// Drops the index, which is wrong after a removal whose place isn't kept as a gap.
 pub(crate) fn drop_index<T>(entries: &mut [Entry<T>])
     ensures dropped { is_dropped entries.new ≡ true }
-    ensures fields { fields_in entries.new ≡ fields_in entries.old }
+    ensures same { bares_in entries.new ≡ bares_in entries.old }
     ensures len { length entries.new ≡ length entries.old }
 {
     if let [first, ..] = entries {

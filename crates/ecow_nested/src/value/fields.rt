@@ -93,8 +93,9 @@ fn exchange(fields: &mut Fields<Value>, name: &str, other: &mut Value) -> Result
 impl Value {
     /// The value of the first field with this name.
     ///
-    /// With 16 fields or more, the time grows as the logarithm of their number. With fewer, and
-    /// after a removal, each field is looked at.
+    /// With 16 fields or more, the time grows as the logarithm of their number. With fewer, each
+    /// field is looked at. So it is after a field was removed whose name comes again, until some
+    /// more fields have been added.
     ///
     /// # Errors
     ///
@@ -209,8 +210,9 @@ impl Value {
 
     /// Removes the first field with this name and returns its value.
     ///
-    /// Moves the fields after it. Shared fields are copied first. If the value was the deepest, the
-    /// depth of each field is read.
+    /// With 16 fields or more, the time grows on average as the logarithm of their number. With
+    /// fewer, the fields after it are moved. Shared fields are copied first. If the value was the
+    /// deepest, the depth of each field is read.
     ///
     /// # Errors
     ///

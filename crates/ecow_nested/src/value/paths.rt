@@ -9,6 +9,7 @@ ghost use Rattle.ecow_nested.specs.declared.fields.Field.{Field};
 ghost use Rattle.ecow_nested.specs.declared.value.Value.{Value};
 
 use crate::fields::Fields;
+use crate::fields::gaps::place_of_index;
 use crate::nested::{MAX_DEPTH, Nested, raise, settle};
 use crate::refusal::Refusal;
 use crate::value::Value;
@@ -242,12 +243,15 @@ fn exchange_in_place(
         (λ field. value_at field.value rest.now ≡ None) }
     ensures codes { IsErrAmong (Refusal.Index ∷ Refusal.Memory ∷ []) result }
 {
+    let place = place_of_index(fields.entries.as_slice(), at);
     let Ok(block) = fields.entries.own_mut() else {
         return Err(Refusal::Memory);
     };
-    block.as_mut_slice()[at]
-        .field
-        .value
-        .exchange_at(rest, other)?;
-    Ok(())
+    match &mut block.as_mut_slice()[place].field {
+        Some(field) => {
+            field.value.exchange_at(rest, other)?;
+            Ok(())
+        }
+        None => unreachable!(),
+    }
 }

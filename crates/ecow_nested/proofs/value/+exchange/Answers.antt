@@ -1,14 +1,15 @@
 use Rattle.std.proofs.Common.{rules, arith, ◌≡◌, ◌≤◌, ◌<◌, ◌+◌, ℕ, List, Some, max, length, get_or, slice_get, slice_set, refl, sym, ap, subst, ◌∙◌}
-use Rattle.std.proofs.lemmas.Option.{slice_get-get_or}
+use Rattle.std.proofs.lemmas.Option.{none-some, slice_get-get_or}
 use Rattle.std.specs.List.{refill}
 use Rattle.std.specs.Option.{option_and_then}
-use lib.ListN.{length-map, length-set}
-use Rattle.std.specs.Prelude.{IfSome}
-use Rattle.ecow_nested.specs.Index.{IsFoundFrom, fields_in}
+use lib.ListN.{length-set}
+use Rattle.std.specs.Prelude.{IfSome, Option}
+use Rattle.ecow_nested.specs.Index.{IsFoundFrom, IsPlaceOf, NotesGaps, fields_in, node_of}
 use Rattle.ecow_nested.specs.declared.fields.Field.{Field}
 use Rattle.ecow_nested.specs.declared.fields.Entry.{Entry}
 use Rattle.ecow_nested.specs.declared.value.Value.{Value}
-use Rattle.ecow_nested.proofs.Index.{field_there, fields_set, found_kept}
+use Rattle.ecow_nested.proofs.Held.{entry_there, field_read, field_there, fields_set, noted_set}
+use Rattle.ecow_nested.proofs.Index.{found_kept}
 use Rattle.ecow_block.specs.Contents.{Contents}
 use Rattle.ecow_list.proofs.Views.{refilled}
 use Rattle.ecow_nested.specs.Names.{named}
@@ -102,37 +103,55 @@ paths::exchange_in_field-returns-clause-covers t c covered =
     let bound : deepest_field c.exchange_in_place.new.fields < c.raise.new.depth = rw e.4 (omega (arith, set, part, low, covered, c.raise.ensures, c.depth.ensures, c.requires)) in
     (rw c.entries.ensures.depths at c.settle.ensures.covers) bound
 
--- an entry with another value
-abbrev with_value : Entry Value → Value → Entry Value
-with_value e value = record { field = named e.field.name value; left = e.left; right = e.right }
+-- an entry with another field
+abbrev with_one : Entry Value → Field Value → Entry Value
+with_one e f = record { field = Some f; left = e.left; right = e.right; again = e.again; gaps = e.gaps }
 
 -- the entry of a field that is lent, and what is left of the entries
-module _ (es block lent left : List (Entry Value)) (i : ℕ) (d : Entry Value) (value : Value)
-    (is : left ≡ refill (length block) block (slice_set lent i (with_value (get_or lent i d) value))) (same : lent ≡ block) (was : block ≡ es)
-    (fields : List (Field Value)) (view : fields_in es ≡ fields) (within : i < length fields) where
+module _ (es block lent left : List (Entry Value)) (index place : ℕ) (d : Entry Value) (f : Field Value) (value : Value)
+    (is : left ≡ refill (length block) block (slice_set lent place (with_one (get_or lent place d) (named f.name value))))
+    (same : lent ≡ block) (was : block ≡ es)
+    (fields : List (Field Value)) (view : fields_in es ≡ fields) (at : IsPlaceOf es index place)
+    (has : (get_or lent place d).field ≡ Some f) where
   abbrev x : Entry Value
-  x = get_or lent i d
+  x = get_or lent place d
 
-  new : left ≡ slice_set es i (with_value x value)
-  new = written es block lent left i (with_value x value) is same was
+  abbrev y : Entry Value
+  y = with_one x (named f.name value)
 
-  at : slice_get es i ≡ Some x
-  at = there es lent i d (same ∙ was) (omega (arith, within, ap length view, length-map es (λ (e : Entry Value). e.field)))
+  new : left ≡ slice_set es place y
+  new = written es block lent left place y is same was
 
-  field_at : slice_get fields i ≡ Some x.field
-  field_at = ap (λ fs. slice_get fs i) (sym view) ∙ field_there es i x at
+  read : get_or es place d ≡ x
+  read = ap (λ l. get_or l place d) (sym (same ∙ was))
 
-  fields_new : fields_in left ≡ slice_set fields i (named x.field.name value)
-  fields_new = ap fields_in new ∙ fields_set es i (with_value x value) ∙ ap (λ fs. slice_set fs i (named x.field.name value)) view
+  x_there : slice_get es place ≡ Some x
+  x_there = entry_there es index place at d ∙ ap Some read
 
-  found_new : IsFoundFrom 16 es → IsFoundFrom 16 left
-  found_new found = subst (IsFoundFrom 16) (sym new) (found_kept es i x (with_value x value) at refl found)
+  field_at : slice_get fields index ≡ Some f
+  field_at =
+      ap (λ fs. slice_get fs index) (sym view) ∙ field_read es index place at d f (ap (λ (e : Entry Value). e.field) read ∙ has)
+
+  fields_new : fields_in left ≡ slice_set fields index (named f.name value)
+  fields_new =
+      ap fields_in new ∙ fields_set es index place at y (named f.name value) refl
+      ∙ ap (λ fs. slice_set fs index (named f.name value)) view
+
+  sound_new : IsFoundFrom 16 es × NotesGaps es → IsFoundFrom 16 left × NotesGaps left
+  sound_new sound =
+      let node : node_of y ≡ node_of x = ap (λ (o : Option (Field Value)). node_of (record { field = o; left = x.left; right = x.right; again = x.again; gaps = x.gaps })) (sym has) in
+      subst (λ zs. IsFoundFrom 16 zs × NotesGaps zs) (sym new) (
+        found_kept es place x y x_there node sound.0,
+        noted_set es index place at x y (named f.name value) x_there refl refl sound.1,
+      )
 
 pub paths::exchange_in_place-invariant_of-fields-2 : goal.paths::exchange_in_place-invariant_of-fields-2
 paths::exchange_in_place-invariant_of-fields-2 t c =
-    found_new c.fields.inside.entries c.in-Ok.block.now.items c.as_mut_slice.result.now _ c.args.at c.index-as_mut_slice-at.result c.exchange_at.new.self
+    let at = subst (λ es. IsPlaceOf es c.args.at c.place_of_index-place.result) c.as_slice.ensures c.place_of_index-place.ensures.place in
+    sound_new c.fields.inside.entries c.in-Ok.block.now.items c.as_mut_slice.result.now _ c.args.at c.place_of_index-place.result
+    c.index-as_mut_slice-place.result c.in-Some.field c.exchange_at.new.self
     (c.own_mut.follows.holds _ (search rules)) c.as_mut_slice.ensures.value (c.in-Ok.ensures.value (λ x y same. same))
-    c.args.fields.now c.fields.view_is c.requires.within c.fields.invariant
+    c.args.fields.now c.fields.view_is at c.in-Some.is c.fields.invariant
 
 pub paths::exchange_in_place-returns-clause-set : goal.paths::exchange_in_place-returns-clause-set
 paths::exchange_in_place-returns-clause-set t c =
@@ -140,28 +159,56 @@ paths::exchange_in_place-returns-clause-set t c =
     let block = c.in-Ok.block.now.items in
     let lent = c.as_mut_slice.result.now in
     let i = c.args.at in
-    let d = c.index-as_mut_slice-at.result in
+    let place = c.place_of_index-place.result in
+    let d = c.index-as_mut_slice-place.result in
+    let f = c.in-Some.field in
     let y = c.exchange_at.new.self in
-    let after : Contents (Entry Value) = record { items = refill (length block) block (slice_set lent i (with_value (get_or lent i d) y)); capacity = c.in-Ok.block.now.capacity } in
+    let at = subst (λ zs. IsPlaceOf zs i place) c.as_slice.ensures c.place_of_index-place.ensures.place in
+    let after : Contents (Entry Value) = record { items = refill (length block) block (slice_set lent place (with_one (get_or lent place d) (named f.name y))); capacity = c.in-Ok.block.now.capacity } in
     let left = c.own_mut.follows.lender after in
     let is = c.own_mut.follows.holds after (search rules) in
     let same = c.as_mut_slice.ensures.value in
     let was = c.in-Ok.ensures.value (λ x y same. same) in (
-      _,
+      f,
       y,
-      field_at es block lent left i d y is same was c.args.fields.now c.fields.view_is c.requires.within,
-      c.in_ok-exchange_at.ensures.set,
-      fields_new es block lent left i d y is same was c.args.fields.now c.fields.view_is c.requires.within,
-      c.in_ok-exchange_at.ensures.bound,
+      field_at es block lent left i place d f y is same was c.args.fields.now c.fields.view_is at c.in-Some.is,
+      c.in_ok-exchange_at-in-Some.ensures.set,
+      fields_new es block lent left i place d f y is same was c.args.fields.now c.fields.view_is at c.in-Some.is,
+      c.in_ok-exchange_at-in-Some.ensures.bound,
     )
+
+-- the field of a place that is read
+module _ (es lent : List (Entry Value)) (index place : ℕ) (d : Entry Value) (f : Field Value) (whole : lent ≡ es)
+    (fields : List (Field Value)) (view : fields_in es ≡ fields) (at : IsPlaceOf es index place)
+    (has : (get_or lent place d).field ≡ Some f) where
+  its_field : slice_get fields index ≡ Some f
+  its_field =
+      ap (λ fs. slice_get fs index) (sym view)
+      ∙ field_read es index place at d f (ap (λ (l : List (Entry Value)). (get_or l place d).field) (sym whole) ∙ has)
 
 pub paths::exchange_in_place-returns-clause-other : goal.paths::exchange_in_place-returns-clause-other
 paths::exchange_in_place-returns-clause-other t c =
-    let es = c.fields.inside.entries in
-    let lent = c.as_mut_slice.result.now in
-    let i = c.args.at in
-    let d = c.index-as_mut_slice-at.result in
-    let within : i < length es = omega (arith, c.requires.within, ap length c.fields.view_is, length-map es (λ (e : Entry Value). e.field)) in
-    let at = there es lent i d (c.as_mut_slice.ensures.value ∙ c.in-Ok.ensures.value (λ x y same. same)) within in
-    let read = ap (λ fs. slice_get fs i) (sym c.fields.view_is) ∙ field_there es i (get_or lent i d) at in
-    subst (λ o. IfSome o (λ field. value_at field.value c.args.rest.now ≡ Some c.exchange_at.new.other)) (sym read) c.in_ok-exchange_at.ensures.other
+    let at = subst (λ es. IsPlaceOf es c.args.at c.place_of_index-place.result) c.as_slice.ensures c.place_of_index-place.ensures.place in
+    let read = its_field c.fields.inside.entries c.as_mut_slice.result.now c.args.at c.place_of_index-place.result c.index-as_mut_slice-place.result c.in-Some.field
+    (c.as_mut_slice.ensures.value ∙ c.in-Ok.ensures.value (λ x y same. same)) c.args.fields.now c.fields.view_is at c.in-Some.is in
+    subst (λ o. IfSome o (λ field. value_at field.value c.args.rest.now ≡ Some c.exchange_at.new.other)) (sym read) c.in_ok-exchange_at-in-Some.ensures.other
+
+pub paths::exchange_in_place-invariant_of-fields-in_err-exchange_at-in-Some : goal.paths::exchange_in_place-invariant_of-fields-in_err-exchange_at-in-Some
+paths::exchange_in_place-invariant_of-fields-in_err-exchange_at-in-Some t c =
+    let at = subst (λ es. IsPlaceOf es c.args.at c.place_of_index-place.result) c.as_slice.ensures c.place_of_index-place.ensures.place in
+    sound_new c.fields.inside.entries c.in-Ok.block.now.items c.as_mut_slice.result.now _ c.args.at c.place_of_index-place.result
+    c.index-as_mut_slice-place.result c.in-Some.field c.exchange_at.new.self
+    (c.own_mut.follows.holds _ (search rules)) c.as_mut_slice.ensures.value (c.in-Ok.ensures.value (λ x y same. same))
+    c.args.fields.now c.fields.view_is at c.in-Some.is c.fields.invariant
+
+pub paths::exchange_in_place-unreachable-requires : goal.paths::exchange_in_place-unreachable-requires
+paths::exchange_in_place-unreachable-requires t c =
+    let at = subst (λ es. IsPlaceOf es c.args.at c.place_of_index-place.result) (c.as_slice.ensures ∙ sym (c.as_mut_slice.ensures.value ∙ c.in-Ok.ensures.value (λ x y same. same))) c.place_of_index-place.ensures.place in
+    none-some at.0 (sym c.in-None.is ∙ field_there c.as_mut_slice.result.now c.args.at c.place_of_index-place.result at c.index-as_mut_slice-place.result)
+
+pub paths::exchange_in_place-returns-in_err-exchange_at-in-Some-clause-index : goal.paths::exchange_in_place-returns-in_err-exchange_at-in-Some-clause-index
+paths::exchange_in_place-returns-in_err-exchange_at-in-Some-clause-index t c =
+    let at = subst (λ es. IsPlaceOf es c.args.at c.place_of_index-place.result) c.as_slice.ensures c.place_of_index-place.ensures.place in
+    let read = its_field c.fields.inside.entries c.as_mut_slice.result.now c.args.at c.place_of_index-place.result c.index-as_mut_slice-place.result c.in-Some.field
+    (c.as_mut_slice.ensures.value ∙ c.in-Ok.ensures.value (λ x y same. same)) c.args.fields.now c.fields.view_is at c.in-Some.is in
+    search (rules, read)
