@@ -7,7 +7,10 @@
 #include <array>
 #include <functional>
 #include <random>
+#include <string>
+#include <utility>
 #include <variant>
+#include <vector>
 
 enum outcome { done, no_memory, invalid, past_end, wrong };
 
@@ -646,6 +649,78 @@ private:
     std::vector<ecow::value::step> path;
 };
 
+using plain_fields = std::vector<std::pair<std::string, std::int64_t>>;
+
+/* Whether fields have these names and numbers in order, and each name means its first field. */
+static bool holds(const ecow::value &fields, const plain_fields &model) {
+    bool same = fields.size() == model.size() && !fields.contains("no such name");
+    for (std::size_t index = 0; same && index < model.size(); index++) {
+        const auto &[name, number] = model[index];
+        const auto first = std::find_if(model.begin(), model.end(), [&name = name](const auto &field) {
+            return field.first == name;
+        });
+        same = fields.name(index) == name && fields.get(index) == number
+               && fields.get(name) == first->second;
+    }
+    return same;
+}
+
+/* Fields that come and go by their names, about so many at a time, beside a plain list of them. Of
+ * `twins`, several have one name. A copy that is kept meanwhile doesn't change. */
+static void names_come_and_go(std::size_t most, bool twins, std::size_t edits) {
+    numbers seed{most};
+    ecow::value fields = ecow::value::fields({}), kept = fields;
+    plain_fields model, kept_model;
+    model.reserve(edits);
+    for (std::size_t edit = 0; edit < edits; edit++) {
+        const std::string name = "name " + std::to_string(below(seed, 2 * most));
+        const auto number = static_cast<std::int64_t>(edit);
+        const auto first_of = [&model](const std::string &wanted) {
+            return std::find_if(model.begin(), model.end(),
+                                [&wanted](const auto &field) { return field.first == wanted; });
+        };
+        /* First more and more, and then fewer and fewer, again and again. */
+        const bool fewer = edit / (2 * most) % 2 == 1;
+        outcome was;
+        if (!model.empty() && below(seed, 8) < (fewer ? 7u : 1u)) {
+            /* The oldest, the newest, or any. */
+            const std::size_t places[] = {0, model.size() - 1, below(seed, model.size())};
+            const std::string gone = model[places[below(seed, 3)]].first;
+            was = outcome_of([&] { CHECK(fields.take(gone) == first_of(gone)->second); });
+            if (was == done) {
+                model.erase(first_of(gone));
+            }
+        } else if (twins && below(seed, 4) == 0) {
+            was = outcome_of([&] { fields.push_field(name, number); });
+            if (was == done) {
+                model.emplace_back(name, number);
+            }
+        } else {
+            was = outcome_of([&] { fields.set(name, number); });
+            if (was == done && first_of(name) == model.end()) {
+                model.emplace_back(name, number);
+            } else if (was == done) {
+                first_of(name)->second = number;
+            }
+        }
+        CHECK(was == done || was == no_memory);
+        if (below(seed, most) == 0) {
+            CHECK(holds(fields, model) && holds(kept, kept_model));
+            kept_model = model;
+            kept = fields;
+        }
+        const std::size_t index = below(seed, model.size() + 1);
+        CHECK(index == model.size()
+              || (fields.name(index) == model[index].first
+                  && fields.get(index) == model[index].second));
+    }
+    ecow::value again = ecow::value::fields({});
+    for (const auto &[name, number] : model) {
+        again.push_field(name, number);
+    }
+    CHECK(holds(fields, model) && fields == again && again == fields);
+}
+
 int main(int argc, char **argv) {
     long edits = argc > 1 ? std::atol(argv[1]) : 100000;
     try {
@@ -664,6 +739,12 @@ int main(int argc, char **argv) {
             texts.edit();
             lists_of_texts.edit();
             nested.edit();
+        }
+        /* Around the number of fields from which on there is an index, and far from it. */
+        for (const std::size_t most : {5, 15, 16, 17, 24, 200, 2000}) {
+            const std::size_t few = std::min(static_cast<std::size_t>(edits) / 4, 12 * most);
+            names_come_and_go(most, false, few);
+            names_come_and_go(most, true, few);
         }
     } catch (const std::bad_alloc &) {
         std::puts("no memory");

@@ -5,6 +5,7 @@ import copy
 import dataclasses
 import math
 import pickle
+import random
 import time
 import types
 import unittest
@@ -48,6 +49,26 @@ def at(thing, path):
 
 
 class Differential(unittest.TestCase):
+    def test_names_that_come_and_go(self):
+        chance = random.Random(5)
+        for most in [4, 15, 16, 17, 60, 1000]:
+            value, model = Value({}), {}
+            for number in range(8 * most):
+                name = f"name {chance.randrange(2 * most)}"
+                fewer = number // (2 * most) % 2
+                if model and chance.randrange(8) < (7 if fewer else 1):
+                    name = chance.choice([next(iter(model)), next(reversed(model)), chance.choice(list(model))])
+                    del value[name], model[name]
+                else:
+                    value[name] = model[name] = number
+                self.assertEqual(value.get(name), model.get(name))
+                if number % most == 0:
+                    kept, as_it_was = Value(value), dict(model)
+                    self.assertEqual(list(value.to_python().items()), list(model.items()))
+            self.assertEqual(list(value.to_python().items()), list(model.items()))
+            self.assertTrue(all(value[name] == model[name] for name in model))
+            self.assertEqual(kept.to_python(), as_it_was)
+
     def test_edits(self):
         draw = draws("value")
 

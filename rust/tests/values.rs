@@ -122,6 +122,60 @@ fn fields_are_edited() {
 }
 
 /// `{"a": [1, {"b": 2}], "c": 3}`
+/// Checks fields against a plain list of their names and numbers.
+fn assert_fields(fields: &Value, model: &[(String, i64)]) {
+    assert_eq!(fields.len(), model.len());
+    for (index, (name, number)) in model.iter().enumerate() {
+        assert_eq!(fields.field_name(index).unwrap().as_str(), name);
+        assert_eq!(fields.get_field(name).unwrap(), Value::from(*number));
+    }
+    let pairs = model.iter().map(|(name, number)| (name.as_str(), *number));
+    assert!(fields.fields().eq(pairs.map(|(name, number)| (EcoString::from(name), Value::from(number)))));
+}
+
+#[test]
+fn removed_names_leave_the_others_in_order() {
+    for count in [5, 15, 16, 17, 30, 200, 1500] {
+        let mut fields = Value::new_fields();
+        let mut model = Vec::new();
+        for number in 0..count {
+            fields.set_field(&format!("name {number}"), number).unwrap();
+            model.push((format!("name {number}"), number));
+        }
+        let (shared, all) = (fields.clone(), model.clone());
+        // From the middle, the beginning and the end, and some new ones between.
+        for round in 0..count {
+            let place = [model.len() / 2, 0, model.len() - 1][round as usize % 3];
+            let (name, number) = model.remove(place);
+            assert_eq!(fields.remove_field(&name).unwrap(), Value::from(number));
+            assert!(fields.get_field(&name).is_err());
+            if round % 4 == 0 {
+                fields.set_field(&name, -number).unwrap();
+                model.push((name, -number));
+            }
+            if round % 500 == 0 || count < 40 {
+                assert_fields(&fields, &model);
+            }
+        }
+        assert_fields(&fields, &model);
+        assert_fields(&shared, &all);
+    }
+}
+
+#[test]
+fn a_name_that_comes_again_is_found_after_the_first_is_removed() {
+    let mut fields = Value::new_fields();
+    for number in 0..40_i64 {
+        fields.push_field(&format!("name {}", number % 20), number).unwrap();
+    }
+    for number in 0..20_i64 {
+        let name = format!("name {number}");
+        assert_eq!(fields.remove_field(&name).unwrap(), Value::from(number));
+        assert_eq!(fields.get_field(&name).unwrap(), Value::from(number + 20));
+    }
+    assert_eq!(fields.len(), 20);
+}
+
 fn tree() -> Value {
     let inner: Value = [("b", 2.into())].into_iter().collect();
     [("a", [1.into(), inner].into_iter().collect()), ("c", 3.into())].into_iter().collect()
