@@ -15,8 +15,7 @@ fn list(alloc: Global, len: usize, last: Value) -> Result<Value, Refusal> {
     Ok(list)
 }
 
-/// Fields of which the first was removed halfway and appended again, so that the index of names was
-/// dropped, and made anew some fields later.
+/// Fields of which the first was removed halfway and appended again, so that there is a gap.
 fn fields(alloc: Global, len: usize, last: Value) -> Result<Value, Refusal> {
     let mut fields = Value::new_fields(alloc);
     for number in 0..len {
@@ -51,6 +50,12 @@ pub(crate) fn sum(alloc: Global, call: &str, len: usize, count: u64) -> Result<u
             "nested_set_field" => value.set_field(LAST, Value::Nothing)?,
             "nested_set_at" => value.set_at(&path, Value::Nothing)?,
             "nested_push_field" => value = fields(alloc, len, Value::Nothing)?,
+            "nested_remove_field" => {
+                // The oldest goes, and comes again as the newest.
+                let name = value.name(0)?.clone()?;
+                let oldest = value.remove_field(name.as_str())?;
+                value.push_field(name.as_str(), oldest)?;
+            }
             _ => drop(value.clone()?),
         }
         sum = sum.wrapping_add(value.len().unwrap_or(0) as u64);
