@@ -12,10 +12,13 @@
 #define FORGET(object)
 #define SPARED(state, type) NULL
 #define SPARE_IT(object) false
+#define LOCKED(value) false
 #include "kind.h"
 
 #define ITEM uint8_t
 #define PASS(item) item
+#define EMPTY(value) ecow_bytes_new()
+#define AT(value, items, index) ((items) + (index))
 #define GIVEN given_bytes
 
 /* Bytes that a call was given: in a clone, in a buffer, or in a `bytes` that was made of them. */
@@ -27,7 +30,7 @@ typedef struct given_bytes {
     bool viewed;
 } given_bytes;
 
-static int bytes_read_item(core_state *Py_UNUSED(state), PyObject *given, uint8_t *byte) {
+static int bytes_read_item(bytes_object *Py_UNUSED(object), PyObject *given, uint8_t *byte) {
     PyObject *index = PyNumber_Index(given);
     if (!index) {
         return -1;
@@ -45,14 +48,14 @@ static int bytes_read_item(core_state *Py_UNUSED(state), PyObject *given, uint8_
 
 static void bytes_drop_item(uint8_t *Py_UNUSED(byte)) {}
 
-static PyObject *bytes_item_object(core_state *Py_UNUSED(state), uint8_t *byte,
+static PyObject *bytes_item_object(bytes_object *Py_UNUSED(object), uint8_t *byte,
                                    bool Py_UNUSED(is_lent)) {
     return PyLong_FromLong(*byte);
 }
 
-static int bytes_give(core_state *state, PyObject *source, given_bytes *given) {
+static int bytes_give(bytes_object *object, PyObject *source, given_bytes *given) {
     size_t count;
-    if (bytes_is(state, source)) {
+    if (bytes_is(object->state, source)) {
         if (check(ecow_bytes_clone(&given->held, &bytes_cast(source)->value), NAME) < 0) {
             return -1;
         }
@@ -83,17 +86,18 @@ static void bytes_give_back(given_bytes *given) {
 
 #include "given_array.h"
 #include "sequence.h"
+#include "whole.h"
 
 /* Reads what a search looks for: a byte by its number, or the bytes of a buffer. */
-static int read_part(core_state *state, PyObject *object, uint8_t *byte, given_bytes *given) {
+static int read_part(bytes_object *self, PyObject *object, uint8_t *byte, given_bytes *given) {
     if (!PyIndex_Check(object)) {
         if (PyObject_CheckBuffer(object)) {
-            return bytes_give(state, object, given);
+            return bytes_give(self, object, given);
         }
         PyErr_Format(PyExc_TypeError, "a bytes-like object is required, not %R", Py_TYPE(object));
         return -1;
     }
-    if (bytes_read_item(state, object, byte) < 0) {
+    if (bytes_read_item(self, object, byte) < 0) {
         return -1;
     }
     given->items = byte;
@@ -113,7 +117,7 @@ static Py_ssize_t bytes_seek(PyObject *self, const char *name, PyObject *const *
     }
     /* Both may run code that changes the value, so its bytes are read behind them. */
     if (read_bounds(name, arguments, count, bytes_length(self), &start, &stop)
-        && read_part(object->state, arguments[0], &byte, &given) == 0) {
+        && read_part(object, arguments[0], &byte, &given) == 0) {
         size_t size;
         const char *bytes = (const char *)ecow_bytes_slice(&object->value, &size);
         stop = stop < (Py_ssize_t)size ? stop : (Py_ssize_t)size;
@@ -135,7 +139,7 @@ static Py_ssize_t bytes_seek(PyObject *self, const char *name, PyObject *const *
 static PyObject *bytes_remove(PyObject *self, PyObject *given) {
     bytes_object *object = bytes_cast(self);
     uint8_t byte;
-    if (bytes_read_item(object->state, given, &byte) < 0) {
+    if (bytes_read_item(object, given, &byte) < 0) {
         return NULL;
     }
     size_t size;
@@ -148,10 +152,11 @@ static PyObject *bytes_remove(PyObject *self, PyObject *given) {
     return none_if(check(ecow_bytes_remove(&object->value, (size_t)found, NULL), NAME));
 }
 
-/* Whether an object is compared and joined with bytes. A `List` lends a buffer, but is of another
- * kind. */
+/* Whether an object is compared and joined with bytes. A `List` and an `Array` lend buffers, but are
+ * of other kinds. */
 static bool is_bytes_like(core_state *state, PyObject *other) {
-    return PyObject_CheckBuffer(other) && !PyObject_TypeCheck(other, state->list);
+    return PyObject_CheckBuffer(other) && !PyObject_TypeCheck(other, state->list)
+           && !PyObject_TypeCheck(other, state->array);
 }
 
 static bool can_join(PyObject *self, PyObject *other) {
@@ -173,11 +178,7 @@ static PyObject *bytes_concat_in_place(PyObject *self, PyObject *other) {
 static PyObject *bytes_compared(PyObject *self, PyObject *other, int operation) {
     bytes_object *object = bytes_cast(self);
     if (bytes_is(object->state, other)) {
-        const ecow_bytes *right = &bytes_cast(other)->value;
-        if (operation == Py_EQ || operation == Py_NE) {
-            return PyBool_FromLong(ecow_bytes_equal(&object->value, right) == (operation == Py_EQ));
-        }
-        return ordered(ecow_bytes_compare(&object->value, right), operation);
+        return bytes_compared_alike(self, other, operation);
     }
     Py_buffer view;
     if (!is_bytes_like(object->state, other)) {

@@ -24,7 +24,7 @@ core_state *state_of_either(PyObject *left, PyObject *right) {
 }
 
 int refuse(ecow_status status, const char *what) {
-    switch (status) {
+    switch ((int)status) {
     case ECOW_MEMORY:
         PyErr_NoMemory();
         return -1;
@@ -39,6 +39,9 @@ int refuse(ecow_status status, const char *what) {
         return -1;
     case ECOW_KIND:
         PyErr_Format(PyExc_TypeError, "%s is of another kind", what);
+        return -1;
+    case IN_USE:
+        PyErr_Format(PyExc_BufferError, "%s is open for writing through a view", what);
         return -1;
     default:
         PyErr_Format(PyExc_SystemError, "%s: %s", what, ecow_status_text(status));
@@ -179,7 +182,8 @@ PyObject *named_repr(PyObject *self, PyObject *contents) {
     bool is_lent = !(PyType_GetFlags(type) & Py_TPFLAGS_BASETYPE);
     type = is_lent ? (PyTypeObject *)PyType_GetSlot(type, Py_tp_base) : type;
     PyObject *name = contents ? PyType_GetName(type) : NULL;
-    PyObject *result = name ? PyUnicode_FromFormat("%U(%R)", name, contents) : NULL;
+    const char *format = name && PyTuple_Check(contents) ? "%U%R" : "%U(%R)";
+    PyObject *result = name ? PyUnicode_FromFormat(format, name, contents) : NULL;
     Py_XDECREF(name);
     Py_XDECREF(contents);
     return result;
@@ -202,6 +206,8 @@ static PyObject *address(PyObject *module, PyObject *given) {
     const void *place = NULL;
     if (PyObject_TypeCheck(given, state->list)) {
         place = ecow_list_slice(&((list_object *)given)->value, &len);
+    } else if (PyObject_TypeCheck(given, state->array)) {
+        place = ecow_array_slice(&((array_object *)given)->value.array, 1, &len);
     } else if (PyObject_TypeCheck(given, state->bytes) || PyObject_TypeCheck(given, state->text)) {
         place = PyObject_TypeCheck(given, state->bytes)
                     ? (const void *)ecow_bytes_slice(&((bytes_object *)given)->value, &len)
@@ -228,8 +234,8 @@ static PyMethodDef functions[] = {
 
 /* The types, and from which each is derived. */
 #define TYPES(X)                                                                               \
-    X(list, NULL) X(bytes, NULL) X(text, NULL) X(texts, NULL) X(value, NULL) X(snapshot, NULL) \
-    X(lent_text, state->text) X(lent_value, state->value)
+    X(list, NULL) X(array, NULL) X(bytes, NULL) X(text, NULL) X(texts, NULL) X(value, NULL)    \
+    X(snapshot, NULL) X(lent_text, state->text) X(lent_value, state->value)
 
 static int add_type(PyObject *module, PyType_Spec *spec, PyTypeObject *base, PyTypeObject **type) {
     *type = (PyTypeObject *)PyType_FromModuleAndSpec(module, spec, (PyObject *)base);

@@ -53,7 +53,7 @@ enum { SPARE = 64 };
 
 /* What a module object owns. */
 typedef struct core_state {
-    PyTypeObject *list, *bytes, *text, *texts, *value, *snapshot;
+    PyTypeObject *list, *array, *bytes, *text, *texts, *value, *snapshot;
     /* Those of what a container hands out, which isn't changed, and has a hash. */
     PyTypeObject *lent_text, *lent_value;
     /* Memory of texts that are gone, for those to come. */
@@ -83,6 +83,32 @@ typedef struct list_object {
     VALUE_HEAD
     ecow_list value;
 } list_object;
+
+/* A type of items, by the letter of `array.array`, which is a buffer's format too. The family is 's'
+ * of numbers with a sign, 'u' of those without, and 'r' of floats. */
+typedef struct item_type {
+    const char *code;
+    char family;
+    size_t size;
+    int (*read)(PyObject *given, void *item);
+    PyObject *(*object_of)(const void *item);
+} item_type;
+
+/* Items of a type, which is null until the array's `__init__` names it, and never changes behind
+ * that. While views that write to the items are open, they aren't changed otherwise, nor cloned. */
+typedef struct typed_items {
+    ecow_array array;
+    const item_type *type;
+    Py_ssize_t views;
+} typed_items;
+
+typedef struct array_object {
+    VALUE_HEAD
+    typed_items value;
+    /* Whether the next view writes, and how many items all such views have, of which size. */
+    bool lends;
+    Py_ssize_t sizes[2];
+} array_object;
 
 typedef struct bytes_object {
     VALUE_HEAD
@@ -118,6 +144,9 @@ core_state *state_of_type(PyTypeObject *type);
 
 /* The state, where one of two objects is of the module's types. */
 core_state *state_of_either(PyObject *left, PyObject *right);
+
+/* What a call answers that would move or share what is being written to through a view. */
+#define IN_USE ((ecow_status)(ECOW_DEPTH + 1))
 
 /* Raises the error of a status other than ECOW_OK, and answers -1. */
 int refuse(ecow_status status, const char *what);
@@ -165,7 +194,8 @@ PyObject *reverse(PyObject *self, PyObject *none);
  * raised. A range may pass the end. */
 Py_ssize_t seek_object(PyObject *sequence, PyObject *object, Py_ssize_t start, Py_ssize_t stop);
 
-/* Text for people: the type's name, and what `repr` gives of an object, which is given up. */
+/* Text for people: the type's name, and what `repr` gives of an object, or of each member of a tuple.
+ * That is given up. */
 PyObject *named_repr(PyObject *self, PyObject *contents);
 
 /* ---- search.c ---- */
@@ -182,8 +212,21 @@ Py_ssize_t search_bytes(const char *bytes, Py_ssize_t size, const char *part, Py
 
 /* Lend the contents of the moment to a reader of buffers. */
 int lend_list(core_state *state, const ecow_list *list, Py_buffer *view, int flags);
+int lend_array(core_state *state, const typed_items *items, Py_buffer *view, int flags);
 int lend_bytes(core_state *state, const ecow_bytes *bytes, Py_buffer *view, int flags);
 extern PyType_Spec snapshot_spec;
+
+/* Fills in a view of so many items of a size, which keeps its lender and reads both there. */
+void fill_view(PyObject *lender, Py_ssize_t sizes[2], const void *items, const char *format,
+               Py_buffer *view, int flags);
+
+/* ---- array.c ---- */
+
+/* Reads a number of 64 bits. */
+int read_q(PyObject *given, void *number);
+
+/* Whether a buffer is an array of such items. */
+bool is_array(const Py_buffer *view, char family, size_t size);
 
 /* ---- foreign.c ---- */
 
@@ -205,14 +248,47 @@ PyObject *without_text(core_state *state, PyObject *object);
 /* A new list of what an iterable gives, in which texts are `str`. */
 PyObject *plain_list(core_state *state, PyObject *iterable);
 
+/* ---- The library's calls on arrays, with a type in place of a size ---- */
+
+static inline size_t item_size(const typed_items *items) {
+    return items->type ? items->type->size : 0;
+}
+
+#define SIZED(name, items, ...) ecow_array_##name(&(items)->array, item_size(items), __VA_ARGS__)
+#define CHANGE(name, items, ...) ((items)->views ? IN_USE : SIZED(name, items, __VA_ARGS__))
+#define items_new() ((typed_items){{{0}}, NULL, 0})
+#define items_drop(items) ecow_array_drop(&(items)->array)
+#define items_len(items) ecow_array_len(&(items)->array, item_size(items))
+#define items_slice(items, len) SIZED(slice, items, len)
+#define items_hash(items) ecow_array_hash(&(items)->array)
+#define items_clear(items) ((items)->views ? IN_USE : ecow_array_clear(&(items)->array))
+#define items_set(items, ...) CHANGE(set, items, __VA_ARGS__)
+#define items_push(items, ...) CHANGE(push, items, __VA_ARGS__)
+#define items_insert(items, ...) CHANGE(insert, items, __VA_ARGS__)
+#define items_remove(items, ...) CHANGE(remove, items, __VA_ARGS__)
+#define items_truncate(items, ...) CHANGE(truncate, items, __VA_ARGS__)
+#define items_reserve(items, ...) CHANGE(reserve, items, __VA_ARGS__)
+#define items_extend(items, ...) CHANGE(extend, items, __VA_ARGS__)
+#define items_splice(items, ...) CHANGE(splice, items, __VA_ARGS__)
+
+/* ECOW_KIND where `to` has another type; it takes that of `from` where it has none. */
+static inline ecow_status items_clone(typed_items *to, const typed_items *from) {
+    if (from->views || (to->type && to->type != from->type)) {
+        return from->views ? IN_USE : ECOW_KIND;
+    }
+    to->type = from->type;
+    return ecow_array_clone(&to->array, &from->array);
+}
+
 /* ---- One file for each kind ---- */
 
-extern PyType_Spec list_spec, bytes_spec, text_spec, texts_spec, value_spec;
+extern PyType_Spec list_spec, array_spec, bytes_spec, text_spec, texts_spec, value_spec;
 extern PyType_Spec lent_text_spec, lent_value_spec;
 
 /* A new object of one of the module's own types that takes a value over. The value is left empty, and
  * is given up where there is no object. */
 PyObject *list_own(core_state *state, PyTypeObject *type, ecow_list *value);
+PyObject *array_own(core_state *state, PyTypeObject *type, typed_items *value);
 PyObject *bytes_own(core_state *state, PyTypeObject *type, ecow_bytes *value);
 PyObject *text_own(core_state *state, PyTypeObject *type, ecow_text *value);
 PyObject *texts_own(core_state *state, PyTypeObject *type, ecow_texts *value);

@@ -1,7 +1,9 @@
-/* What lists and lists of texts have in common: they are like a `list` of Python's. It is included
- * behind `sequence.h`, with one name more:
+/* What lists, arrays and lists of texts have in common: they are like a `list` of Python's. It is
+ * included behind `sequence.h`, with two names more:
  *     OWN(seek)      where an item in a range equals an object: -1 where none does, -2 with an
- *                    error */
+ *                    error
+ *     OWN(compared_alike)   compares two objects of this kind
+ *     MORE_METHODS   methods of this kind alone */
 
 static int OWN(contains)(PyObject *self, PyObject *object) {
     Py_ssize_t found = OWN(seek)(self, object, 0, PY_SSIZE_T_MAX);
@@ -48,18 +50,13 @@ static PyObject *OWN(plus)(PyObject *left, PyObject *right) {
 }
 
 static PyObject *OWN(compared)(PyObject *self, PyObject *other, int operation) {
-    OBJECT *object = OWN(cast)(self);
     if (PyList_Check(other)) {
         return compare_with_list(self, other, operation);
     }
-    if (!OWN(is)(object->state, other)) {
+    if (!OWN(is)(OWN(cast)(self)->state, other)) {
         Py_RETURN_NOTIMPLEMENTED;
     }
-    const VALUE *right = &OWN(cast)(other)->value;
-    if (operation == Py_EQ || operation == Py_NE) {
-        return PyBool_FromLong(CALL(equal)(&object->value, right) == (operation == Py_EQ));
-    }
-    return ordered(CALL(compare)(&object->value, right), operation);
+    return OWN(compared_alike)(self, other, operation);
 }
 
 /* clang-format off */
@@ -73,6 +70,7 @@ static PyMethodDef OWN(methods)[] = {
     {"remove", OWN(remove), METH_O,
      PyDoc_STR("remove($self, item, /)\n--\n\n"
                "Takes the first such item out: ValueError where there is none.")},
+    MORE_METHODS
     {NULL, NULL, 0, NULL},
 };
 

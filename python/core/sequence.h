@@ -1,5 +1,7 @@
-/* What lists, bytes and lists of texts have in common. It is included behind `kind.h`, with more:
+/* What lists, arrays, bytes and lists of texts have in common. It is included behind `kind.h`, with
+ * more:
  *     ITEM                       the type of an item of the library's; `PASS(item)` goes to a call
+ *     EMPTY(value)               an empty value for items as those of another
  *     GIVEN                      the struct of items that a call was given, with their `count`
  *     OWN(read_item)             reads an item from an object of Python's; `OWN(drop_item)` ends it
  *     OWN(item_object)           makes an object of Python's of an item, which it takes over; one
@@ -20,7 +22,7 @@ static PyObject *OWN(item)(PyObject *self, Py_ssize_t index) {
     if (check(CALL(get)(&object->value, (size_t)index, &item), NAME) < 0) {
         return NULL;
     }
-    return OWN(item_object)(object->state, &item, true);
+    return OWN(item_object)(object, &item, true);
 }
 
 /* Reads an index that counts from the end where it is below 0. One before the start passes the end
@@ -41,6 +43,9 @@ static PyObject *OWN(part)(PyObject *self, Py_ssize_t start, Py_ssize_t step, Py
         return OWN(cloned)(self, object->state->TYPE);
     }
     OBJECT *made = OWN(make)(object->state, object->state->TYPE);
+    if (made) {
+        made->value = EMPTY(object->value);
+    }
     if (made && check(OWN(add_part)(&made->value, &object->value, start, step, count), NAME) < 0) {
         Py_CLEAR(made);
     }
@@ -82,7 +87,7 @@ static int OWN(set_item)(PyObject *self, PyObject *key, PyObject *given) {
                    ? check(CALL(remove)(&object->value, index, NULL), NAME)
                    : -1;
     }
-    if (OWN(read_item)(object->state, given, &item) < 0) {
+    if (OWN(read_item)(object, given, &item) < 0) {
         return -1;
     }
     int done = OWN(read_index)(self, key, &index)
@@ -108,16 +113,14 @@ static int OWN(cut)(PyObject *self, Py_ssize_t start, Py_ssize_t step, Py_ssize_
         return check(OWN(put_given)(&object->value, (size_t)start, end, &none), NAME);
     }
     /* What stays is gathered in a new value, so that a refusal changes nothing. */
-    VALUE kept = CALL(new)();
+    VALUE kept = EMPTY(object->value);
     ecow_status status = OWN(add_part)(&kept, &object->value, 0, 1, start);
     for (Py_ssize_t taken = 0; taken < count && status == ECOW_OK; taken++) {
         Py_ssize_t from = start + taken * step + 1;
         Py_ssize_t to = taken + 1 < count ? start + (taken + 1) * step : OWN(length)(self);
         status = OWN(add_part)(&kept, &object->value, from, 1, to - from);
     }
-    if (status == ECOW_OK) {
-        OWN(take_over)(object, &kept);
-    }
+    status = status ? status : OWN(take_over)(object, &kept);
     CALL(drop)(&kept);
     return check(status, NAME);
 }
@@ -162,44 +165,17 @@ static int OWN(set_subscript)(PyObject *self, PyObject *key, PyObject *value) {
         return OWN(cut)(self, start, step, count);
     }
     GIVEN given = {0};
-    int done = OWN(give)(object->state, value, &given) < 0
+    int done = OWN(give)(object, value, &given) < 0
                    ? -1
                    : OWN(set_slice)(self, start, stop, step, &given);
     OWN(give_back)(&given);
     return done;
 }
 
-static int OWN(init)(PyObject *self, PyObject *arguments, PyObject *named) {
-    OBJECT *object = OWN(cast)(self);
-    PyObject *source;
-    if (!read_source(NAME, arguments, named, &source)) {
-        return -1;
-    }
-    if (!source) {
-        return check(CALL(clear)(&object->value), NAME);
-    }
-    VALUE made = CALL(new)();
-    int done;
-    if (OWN(is)(object->state, source)) {
-        done = check(CALL(clone)(&made, &OWN(cast)(source)->value), NAME);
-    } else {
-        GIVEN given = {0};
-        done = OWN(give)(object->state, source, &given) < 0
-                   ? -1
-                   : check(OWN(add_given)(&made, &given), NAME);
-        OWN(give_back)(&given);
-    }
-    if (done == 0) {
-        OWN(take_over)(object, &made);
-    }
-    CALL(drop)(&made);
-    return done;
-}
-
 static PyObject *OWN(append)(PyObject *self, PyObject *given) {
     OBJECT *object = OWN(cast)(self);
     ITEM item = {0};
-    if (OWN(read_item)(object->state, given, &item) < 0) {
+    if (OWN(read_item)(object, given, &item) < 0) {
         return NULL;
     }
     ecow_status status = CALL(push)(&object->value, PASS(item));
@@ -210,7 +186,7 @@ static PyObject *OWN(append)(PyObject *self, PyObject *given) {
 static PyObject *OWN(extend)(PyObject *self, PyObject *source) {
     OBJECT *object = OWN(cast)(self);
     GIVEN given = {0};
-    int done = OWN(give)(object->state, source, &given) < 0
+    int done = OWN(give)(object, source, &given) < 0
                    ? -1
                    : check(OWN(add_given)(&object->value, &given), NAME);
     OWN(give_back)(&given);
@@ -228,7 +204,7 @@ static PyObject *OWN(insert)(PyObject *self, PyObject *const *arguments, Py_ssiz
     }
     Py_ssize_t index = PyNumber_AsSsize_t(arguments[0], NULL);
     if ((index == -1 && PyErr_Occurred())
-        || OWN(read_item)(object->state, arguments[1], &item) < 0) {
+        || OWN(read_item)(object, arguments[1], &item) < 0) {
         return NULL;
     }
     Py_ssize_t len = OWN(length)(self);
@@ -254,7 +230,7 @@ static PyObject *OWN(pop)(PyObject *self, PyObject *const *arguments, Py_ssize_t
     if (check(CALL(get)(&object->value, index, &item), NAME) < 0) {
         return NULL;
     }
-    PyObject *taken = OWN(item_object)(object->state, &item, false);
+    PyObject *taken = OWN(item_object)(object, &item, false);
     if (taken && check(CALL(remove)(&object->value, index, NULL), NAME) < 0) {
         Py_CLEAR(taken);
     }
@@ -302,10 +278,10 @@ static int OWN(repeated)(PyObject *self, Py_ssize_t times, VALUE *made) {
 }
 
 static PyObject *OWN(repeat_in_place)(PyObject *self, Py_ssize_t times) {
-    VALUE value = CALL(new)();
+    VALUE value = EMPTY(OWN(cast)(self)->value);
     int done = times == 1 ? 0 : OWN(repeated)(self, times, &value);
     if (done == 0 && times != 1) {
-        OWN(take_over)(OWN(cast)(self), &value);
+        done = check(OWN(take_over)(OWN(cast)(self), &value), NAME);
     }
     CALL(drop)(&value);
     return done < 0 ? NULL : Py_NewRef(self);
@@ -318,11 +294,10 @@ static PyObject *OWN(repeat)(PyObject *self, Py_ssize_t times) {
     return repeated;
 }
 
-/* A new object of the items of two objects, each of this kind or of what `OWN(give)` takes. */
+/* A new object of the items of two objects: one of this kind, and one of what `OWN(give)` takes. */
 static PyObject *OWN(joined)(core_state *state, PyObject *left, PyObject *right) {
     bool is_own = OWN(is)(state, left);
-    PyObject *made =
-        is_own ? OWN(cloned)(left, state->TYPE) : (PyObject *)OWN(make)(state, state->TYPE);
+    PyObject *made = is_own ? OWN(cloned)(left, state->TYPE) : OWN(part)(right, 0, 1, 0);
     PyObject *first = made && !is_own ? OWN(extend)(made, left) : NULL;
     PyObject *second = made && (is_own || first) ? OWN(extend)(made, right) : NULL;
     Py_XDECREF(first);

@@ -5,8 +5,9 @@
 typedef struct snapshot_object {
     PyObject ob_base;
     ecow_list list;
+    typed_items array;
     ecow_bytes bytes;
-    Py_ssize_t count, width;
+    Py_ssize_t sizes[2];
 } snapshot_object;
 
 static void snapshot_dealloc(PyObject *self) {
@@ -14,6 +15,7 @@ static void snapshot_dealloc(PyObject *self) {
     PyTypeObject *type = Py_TYPE(self);
     freefunc release = (freefunc)PyType_GetSlot(type, Py_tp_free);
     ecow_list_drop(&snapshot->list);
+    items_drop(&snapshot->array);
     ecow_bytes_drop(&snapshot->bytes);
     release(self);
     Py_DECREF(type);
@@ -41,35 +43,34 @@ static snapshot_object *make(core_state *state, Py_buffer *view, int flags) {
     return (snapshot_object *)PyType_GenericAlloc(state->snapshot, 0);
 }
 
-/* Fills a view in, which takes the snapshot over. */
-static void fill(snapshot_object *snapshot, const void *items, size_t count, size_t width,
-                 const char *format, Py_buffer *view, int flags) {
-    snapshot->count = (Py_ssize_t)count;
-    snapshot->width = (Py_ssize_t)width;
-    view->obj = (PyObject *)snapshot;
+void fill_view(PyObject *lender, Py_ssize_t sizes[2], const void *items, const char *format,
+               Py_buffer *view, int flags) {
+    view->obj = lender;
     view->buf = (void *)items;
-    view->len = snapshot->count * snapshot->width;
-    view->itemsize = snapshot->width;
+    view->len = sizes[0] * sizes[1];
+    view->itemsize = sizes[1];
     view->readonly = 1;
     view->ndim = 1;
     view->format = flags & PyBUF_FORMAT ? (char *)format : NULL;
-    view->shape = flags & PyBUF_ND ? &snapshot->count : NULL;
-    view->strides = (flags & PyBUF_STRIDES) == PyBUF_STRIDES ? &snapshot->width : NULL;
+    view->shape = flags & PyBUF_ND ? &sizes[0] : NULL;
+    view->strides = (flags & PyBUF_STRIDES) == PyBUF_STRIDES ? &sizes[1] : NULL;
     view->suboffsets = NULL;
     view->internal = NULL;
 }
 
-#define LEND(kind, item, format)                                                               \
-    int lend_##kind(core_state *state, const ecow_##kind *given, Py_buffer *view, int flags) { \
-        snapshot_object *snapshot = make(state, view, flags);                                  \
-        if (!snapshot || check(ecow_##kind##_clone(&snapshot->kind, given), "a buffer") < 0) { \
-            Py_XDECREF((PyObject *)snapshot);                                                  \
+#define LEND(kind, type, call, size, format)                                                   \
+    int lend_##kind(core_state *state, const type *given, Py_buffer *view, int flags) {        \
+        snapshot_object *made = make(state, view, flags);                                      \
+        if (!made || check(call##_clone(&made->kind, given), "a buffer") < 0) {                \
+            Py_XDECREF((PyObject *)made);                                                      \
             return -1;                                                                         \
         }                                                                                      \
-        size_t count;                                                                          \
-        const item *items = ecow_##kind##_slice(&snapshot->kind, &count);                      \
-        fill(snapshot, items, count, sizeof *items, format, view, flags);                      \
+        made->sizes[0] = (Py_ssize_t)call##_len(given);                                        \
+        made->sizes[1] = (Py_ssize_t)(size);                                                   \
+        const void *items = call##_slice(&made->kind, NULL);                                   \
+        fill_view((PyObject *)made, made->sizes, items, format, view, flags);                  \
         return 0;                                                                              \
     }
-LEND(list, int64_t, "q")
-LEND(bytes, uint8_t, "B")
+LEND(list, ecow_list, ecow_list, sizeof(int64_t), "q")
+LEND(array, typed_items, items, item_size(given), given->type ? given->type->code : "B")
+LEND(bytes, ecow_bytes, ecow_bytes, sizeof(uint8_t), "B")

@@ -12,10 +12,12 @@
 #define FORGET(object)
 #define SPARED(state, type) NULL
 #define SPARE_IT(object) false
+#define LOCKED(value) false
 #include "kind.h"
 
 #define ITEM ecow_text
 #define PASS(item) &item
+#define EMPTY(value) ecow_texts_new()
 #define GIVEN given_texts
 
 /* Texts that a call was given, as clones. */
@@ -24,38 +26,39 @@ typedef struct given_texts {
     Py_ssize_t count;
 } given_texts;
 
-static int texts_read_item(core_state *state, PyObject *given, ecow_text *text) {
-    return read_text(state, given, text);
+static int texts_read_item(texts_object *object, PyObject *given, ecow_text *text) {
+    return read_text(object->state, given, text);
 }
 
 static void texts_drop_item(ecow_text *text) {
     ecow_text_drop(text);
 }
 
-static PyObject *texts_item_object(core_state *state, ecow_text *text, bool is_lent) {
+static PyObject *texts_item_object(texts_object *object, ecow_text *text, bool is_lent) {
+    core_state *state = object->state;
     return text_own(state, is_lent ? state->lent_text : state->text, text);
 }
 
-static int texts_give(core_state *state, PyObject *source, given_texts *given) {
-    if (texts_is(state, source)) {
+static int texts_give(texts_object *object, PyObject *source, given_texts *given) {
+    if (texts_is(object->state, source)) {
         const ecow_texts *texts = &texts_cast(source)->value;
         given->count = (Py_ssize_t)ecow_texts_len(texts);
         return check(ecow_texts_clone(&given->held, texts), NAME);
     }
-    PyObject *iterator = PyObject_GetIter(source), *object;
+    PyObject *iterator = PyObject_GetIter(source), *item;
     if (!iterator) {
         return -1;
     }
     int done = 0;
-    while (done == 0 && (object = PyIter_Next(iterator))) {
+    while (done == 0 && (item = PyIter_Next(iterator))) {
         ecow_text text = {{0}};
-        done = read_text(state, object, &text);
+        done = read_text(object->state, item, &text);
         if (done == 0) {
             done = check(ecow_texts_push(&given->held, &text), NAME);
         }
         given->count++;
         ecow_text_drop(&text);
-        Py_DECREF(object);
+        Py_DECREF(item);
     }
     Py_DECREF(iterator);
     return PyErr_Occurred() ? -1 : 0;
@@ -100,6 +103,7 @@ static ecow_status texts_add_part(ecow_texts *to, const ecow_texts *from, Py_ssi
 }
 
 #include "sequence.h"
+#include "whole.h"
 
 static Py_ssize_t texts_seek(PyObject *self, PyObject *object, Py_ssize_t start, Py_ssize_t stop) {
     texts_object *own = texts_cast(self);
@@ -121,6 +125,7 @@ static Py_ssize_t texts_seek(PyObject *self, PyObject *object, Py_ssize_t start,
     return -1;
 }
 
+#define MORE_METHODS
 #include "list_like.h"
 
 static PyObject *texts_repr(PyObject *self) {

@@ -12,6 +12,7 @@
 #define FORGET(object)
 #define SPARED(state, type) NULL
 #define SPARE_IT(object) false
+#define LOCKED(value) false
 #include "kind.h"
 
 /* Parts that nest so deep are read one by one. */
@@ -763,6 +764,7 @@ static PyObject *value_compared(PyObject *self, PyObject *other, int operation) 
     const ecow_value *right = value_is(state, other) ? &value_cast(other)->value : NULL;
     bool has_items = PyList_Check(other) || PyDict_Check(other)
                      || PyObject_TypeCheck(other, state->list)
+                     || PyObject_TypeCheck(other, state->array)
                      || PyObject_TypeCheck(other, state->texts);
     if ((operation != Py_EQ && operation != Py_NE) || (!right && !has_items && has_parts(value))) {
         Py_RETURN_NOTIMPLEMENTED;

@@ -1,4 +1,4 @@
-"""Lists, bytes, texts and nested values whose copies share memory until one of them is changed.
+"""Lists, arrays, bytes, texts and nested values whose copies share memory until one of them is changed.
 
 A copy takes the same time however long the value is. No copy shows what is changed in another."""
 
@@ -6,10 +6,11 @@ from collections.abc import MutableSequence as _MutableSequence
 
 import ecow._objects as _objects
 from ecow._core import (
-    Bytes, LentText, LentValue, List, Text, Texts, Value, __version__, is_utf8)
+    Array, Bytes, LentText, LentValue, List, Text, Texts, Value, __version__, is_utf8)
 
 __all__ = [
-    "Bytes", "LentText", "LentValue", "List", "Text", "Texts", "Value", "__version__", "is_utf8"]
+    "Array", "Bytes", "LentText", "LentValue", "List", "Text", "Texts", "Value", "__version__",
+    "is_utf8"]
 
-for _kind in (Bytes, List, Text, Texts):
+for _kind in (Array, Bytes, List, Text, Texts):
     _MutableSequence.register(_kind)

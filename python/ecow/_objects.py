@@ -16,9 +16,9 @@ from collections.abc import Callable, Iterable, Mapping
 from typing import Any, Optional
 
 from ecow._core import (
-    Bytes, LentText, LentValue, List, Text, Texts, Value, _address, _plain)
+    Array, Bytes, LentText, LentValue, List, Text, Texts, Value, _address, _plain)
 
-_KINDS = (List, Bytes, Text, Texts, Value)
+_KINDS = (List, Array, Bytes, Text, Texts, Value)
 
 
 def plain(source: Any) -> Any:
@@ -28,7 +28,7 @@ def plain(source: Any) -> Any:
         return source.value
     if isinstance(source, Mapping):
         return dict(source.items())
-    if isinstance(source, (list, List, Texts)):
+    if isinstance(source, (list, List, Array, Texts)):
         return list(source)
     if dataclasses.is_dataclass(source) and not isinstance(source, type):
         return {each.name: getattr(source, each.name) for each in dataclasses.fields(source)}
@@ -176,8 +176,13 @@ def _sort(self: Any, /, *, key: Any = None, reverse: bool = False) -> None:
     self[:] = sorted(self, key=key, reverse=reverse)
 
 
+def _frombytes(self: Any, data: Any, /) -> None:
+    """Appends the items that have these bytes in memory: ValueError where the last isn't whole."""
+    self.extend(array.array(self.typecode, bytes(data)))
+
+
 for _kinds, _name, _method in (
-    ((List, Texts), "sort", _sort), ((Value,), "sort", _sort_at), ((Value,), "index", _index),
+    ((Array,), "frombytes", _frombytes), ((List, Array, Texts), "sort", _sort), ((Value,), "sort", _sort_at), ((Value,), "index", _index),
     ((Value,), "items", _items),
     ((Value,), "update", _update), ((Value,), "setdefault", _setdefault),
     ((Value,), "__or__", _joined), ((Value,), "__ror__", _joined_right),
@@ -206,6 +211,8 @@ class Block:
             return load_value, (list(parts), list(parts.values())) if named else (None, parts)
         if isinstance(value, List):
             return load_list, (_in_order(bytes(value)).tobytes(),)
+        if isinstance(value, Array):
+            return load_array, (value.typecode, value.tolist())
         if isinstance(value, Texts):
             return load_texts, (parts,)
         return load_bytes, ((bytes if isinstance(value, Bytes) else str)(value),)
@@ -228,6 +235,11 @@ def _in_order(data: bytes) -> array.array[int]:
 def load_list(data: bytes) -> Block:
     """A block of numbers, of their bytes from the lowest on."""
     return Block(List(_in_order(data)))
+
+
+def load_array(code: str, items: list[Any]) -> Block:
+    """A block of items of a type."""
+    return Block(Array(code, items))
 
 
 def load_bytes(plain: Any) -> Block:
@@ -292,6 +304,8 @@ def _packed(value: Any, new: list[Any]) -> Any:
         return _packed(Text(value), new) if value.kind == "text" else value.to_python()
     if isinstance(value, Texts):
         return _block(Texts, value, new, [_packed(text, new) for text in value])
+    if isinstance(value, Array):
+        return _block(Array, value, new)
     for kind, plain in ((List, list), (Bytes, bytes), (Text, str)):
         if isinstance(value, kind):
             return _block(kind, value, new) if _address(value) else plain(value)
