@@ -245,6 +245,7 @@ static PyType_Slot bytes_slots[] = {
     {Py_sq_concat, bytes_concat},
     {Py_sq_inplace_concat, bytes_concat_in_place},
     {Py_bf_getbuffer, bytes_buffer},
+    {Py_bf_releasebuffer, release_buffer},
     {0, NULL},
 };
 

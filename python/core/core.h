@@ -216,6 +216,10 @@ int lend_array(core_state *state, const typed_items *items, Py_buffer *view, int
 int lend_bytes(core_state *state, const ecow_bytes *bytes, Py_buffer *view, int flags);
 extern PyType_Spec snapshot_spec;
 
+/* Does nothing. A type that has such a call tells its readers to keep a view as long as they use its
+ * memory: what isn't kept may be gone once the value is changed. */
+void release_buffer(PyObject *self, Py_buffer *view);
+
 /* Fills in a view of so many items of a size, which keeps its lender and reads both there. */
 void fill_view(PyObject *lender, Py_ssize_t sizes[2], const void *items, const char *format,
                Py_buffer *view, int flags);

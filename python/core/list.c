@@ -74,6 +74,7 @@ static PyType_Slot list_slots[] = {
     LIST_LIKE_SLOTS,
     {Py_tp_repr, list_repr},
     {Py_bf_getbuffer, list_buffer},
+    {Py_bf_releasebuffer, release_buffer},
     {0, NULL},
 };
 

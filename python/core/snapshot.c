@@ -43,6 +43,8 @@ static snapshot_object *make(core_state *state, Py_buffer *view, int flags) {
     return (snapshot_object *)PyType_GenericAlloc(state->snapshot, 0);
 }
 
+void release_buffer(PyObject *Py_UNUSED(self), Py_buffer *Py_UNUSED(view)) {}
+
 void fill_view(PyObject *lender, Py_ssize_t sizes[2], const void *items, const char *format,
                Py_buffer *view, int flags) {
     view->obj = lender;
