@@ -12,7 +12,7 @@
 #define FORGET(object)
 #define SPARED(state, type) NULL
 #define SPARE_IT(object) false
-#define LOCKED(value) ((value)->views > 0)
+#define LOCKED(value) ((value)->views != 0)
 #include "kind.h"
 
 /* Room for an item of any type. Items stand at any address, so they are copied as bytes. */

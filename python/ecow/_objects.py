@@ -178,7 +178,7 @@ def _sort(self: Any, /, *, key: Any = None, reverse: bool = False) -> None:
 
 def _frombytes(self: Any, data: Any, /) -> None:
     """Appends the items that have these bytes in memory: ValueError where the last isn't whole."""
-    self.extend(array.array(self.typecode, bytes(data)))
+    Array.extend(self, array.array(self.typecode, bytes(memoryview(data))))
 
 
 for _kinds, _name, _method in (

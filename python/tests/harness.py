@@ -3,14 +3,24 @@
 ECOW_EDITS in the environment says how many random edits each differential test makes, and
 ECOW_SEED which."""
 
+import array
 import copy
 import os
 import random
 
-from ecow import Bytes, List, Text, Texts, Value
+from ecow import Array, Bytes, List, Text, Texts, Value
 
 EDITS = int(os.environ.get("ECOW_EDITS", "3000"))
 SEED = int(os.environ.get("ECOW_SEED", "20260915"))
+
+# The types of an array's items by their codes, each with the least and the largest number.
+ENDS = {
+    **{code: (-(2 ** (bits - 1)), 2 ** (bits - 1) - 1) for code in "bhilq"
+       for bits in [8 * array.array(code).itemsize]},
+    **{code: (0, 2**bits - 1) for code in "BHILQ" for bits in [8 * array.array(code).itemsize]},
+    "f": (-(2.0**127) * (2 - 2.0**-23), 2.0**127 * (2 - 2.0**-23)),
+    "d": (-(2.0**1023) * (2 - 2.0**-52), 2.0**1023 * (2 - 2.0**-52)),
+}
 
 # Lengths at which a value changes its form: 15 bytes stand inline, and 1,024 items in one request.
 LENGTHS = (0, 1, 2, 14, 15, 16, 17, 40, 1023, 1024, 1025, 1500)
@@ -23,7 +33,7 @@ def draws(name):
 
 def plain(thing):
     """The same contents in types of Python's own."""
-    if isinstance(thing, List):
+    if isinstance(thing, (Array, List, array.array)):
         return list(thing)
     if isinstance(thing, (Bytes, bytearray)):
         return bytes(thing)
@@ -36,6 +46,14 @@ def plain(thing):
     if isinstance(thing, (list, tuple)):
         return type(thing)(plain(each) for each in thing)
     return thing
+
+
+def number(draw, code):
+    """A number that an item of that type has."""
+    least, most = ENDS[code]
+    if code in "fd":
+        return draw.choice((0.0, -0.0, 0.5, 1.0, least, most, float(draw.randint(-999, 999)) / 8))
+    return draw.choice((0, 1, 3, least, most, draw.randint(least, most)))
 
 
 def done(_):

@@ -11,7 +11,7 @@ import ctypes
 import itertools
 import pickle
 
-from ecow import Bytes, List, Text, Texts, Value
+from ecow import Array, Bytes, List, Text, Texts, Value
 from harness import plain
 
 SHARED = (
@@ -37,6 +37,21 @@ CALLS = (
         lambda value: List(range(500)), lambda value: value.remove(value[3]),
         lambda value: value.sort(key=lambda number: -number), lambda value: value.__init__([2**62]),
     )) for make in (lambda: List(range(100)), lambda: List(range(2**60, 2**60 + 40)))),
+    *((make, SEQUENCE + (
+        lambda value: value.append(1), lambda value: value.insert(3, 1), lambda value: value.sort(),
+        lambda value: value.extend([1] * 300), lambda value: value.extend(range(300)),
+        lambda value: value.extend(Array(value.typecode, [1] * 300)), lambda value: value.tobytes(),
+        lambda value: value.__setitem__(3, 9), lambda value: value.tolist(), lambda value: value == [1],
+        lambda value: value.__setitem__(slice(1, 5), [1] * 40), lambda value: value == value[:],
+        lambda value: value.__setitem__(slice(0, 9, 3), [1, 2, 3]), lambda value: value + [1],
+        lambda value: [1] + value, lambda value: value.remove(value[3]), lambda value: value.index(value[5]),
+        lambda value: value.__iadd__([1] * 200), lambda value: memoryview(value)[2:],
+        lambda value: Array(value.typecode, range(100)), lambda value: Array("d", value),
+        lambda value: Array("d", bytes(800)), lambda value: value.frombytes(bytes(800)),
+        lambda value: value.edit(), lambda value: value.edit()[3:], lambda value: value < [1],
+        lambda value: value == Array("d", value), lambda value: value[9], lambda value: value.typecode,
+    )) for make in (lambda: Array("d", range(100)), lambda: Array("h", range(100)),
+                    lambda: Array("Q", range(2**60, 2**60 + 40)))),
     *((make, SEQUENCE + (
         lambda value: value.append(1), lambda value: value.insert(3, 1),
         lambda value: value.upper(),

@@ -7,15 +7,19 @@ import sys
 import unittest
 import weakref
 
-from ecow import Bytes, List, Text, Texts, Value
+from ecow import Array, Bytes, List, Text, Texts, Value
 from ecow import _core
-from harness import outcome, plain
+from harness import ENDS, outcome, plain
 
 # A value of each form with a change of it.
 SAMPLES = (
     (lambda: List(), lambda value: value.append(1)),
     (lambda: List(range(20)), lambda value: value.append(1)),
     (lambda: List(range(3000)), lambda value: value.__setitem__(5, -5)),
+    (lambda: Array("d"), lambda value: value.append(1)),
+    (lambda: Array("h", range(20)), lambda value: value.frombytes(b"ab")),
+    (lambda: Array("d", range(3000)), lambda value: value.__setitem__(5, -5)),
+    (lambda: Array("f", range(3000)), lambda value: value.edit().__setitem__(5, 0.5)),
     (lambda: Bytes(b"few"), lambda value: value.append(1)),
     (lambda: Bytes(b"fifteen letters"), lambda value: value.pop()),
     (lambda: Bytes(b"sixteen letters!"), lambda value: value.clear()),
@@ -39,6 +43,14 @@ class Note(Text):
     def __init__(self, text, author):
         super().__init__(text)
         self.author = author
+
+
+class Samples(Array):
+    """A subclass whose constructor has arguments of its own."""
+
+    def __init__(self, rate, items=()):
+        super().__init__("d", items)
+        self.rate = rate
 
 
 class Slotted(List):
@@ -87,7 +99,8 @@ class Copies(unittest.TestCase):
 
     def test_shared(self):
         """What is a copy stands at the same place in memory, until it is changed."""
-        for value in (List(range(3000)), Bytes(bytes(3000)), Text("a" * 3000)):
+        arrays = [Array(code, [5] * 3000) for code in ENDS]
+        for value in (List(range(3000)), *arrays, Bytes(bytes(3000)), Text("a" * 3000)):
             base = type(value)
             for made in (value.copy(), copy.copy(value), copy.deepcopy(value), base(value),
                          value[:], value * 1, value[::1]):
@@ -103,6 +116,8 @@ class Copies(unittest.TestCase):
         ):
             text = Text("a" * 3000)
             self.assertEqual(_core._address(call(text)), _core._address(text))
+        for value in arrays:
+            self.assertEqual(_core._address(Array(value.typecode, value)), _core._address(value))
         # A sole value is changed where it is.
         value = List(range(3000))
         value.copy()
@@ -112,12 +127,28 @@ class Copies(unittest.TestCase):
 
     def test_not_copied(self):
         """A value that nobody shares any more is edited in place, whoever made the other copies."""
-        value = List(range(3000))
-        place = _core._address(value)
-        for use in (lambda: pickle.dumps(value), lambda: memoryview(value).release(),
-                    lambda: list(value.copy()), lambda: value == value.copy(), lambda: value[:]):
-            use()
-            value[7] += 1
+        for value in (List(range(3000)), Array("d", range(3000)), Array("H", range(3000))):
+            place = _core._address(value)
+            for use in (lambda: pickle.dumps(value), lambda: memoryview(value).release(),
+                        lambda: list(value.copy()), lambda: value == value.copy(), lambda: value[:],
+                        lambda: repr(value), lambda: value < value.copy(), lambda: type(value)(value)):
+                use()
+                value[7] += 1
+                self.assertEqual(_core._address(value), place)
+
+    def test_room(self):
+        """Room that was made is used where it is, and kept where the contents go."""
+        for value, more in ((List(), [1] * 900), (Array("d"), Array("d", [1] * 900)),
+                            (Array("b"), iter([1] * 900)), (Array("I"), (1,) * 900)):
+            value.append(1)
+            value.reserve(1000)
+            place = _core._address(value)
+            value.extend(more)
+            for _ in range(90):
+                value.append(1)
+            self.assertEqual(_core._address(value), place)
+            value.clear()
+            value.extend([1] * 900)
             self.assertEqual(_core._address(value), place)
 
     def test_weak_references(self):
@@ -135,12 +166,14 @@ class Subclasses(unittest.TestCase):
         note = Note("a text that spills", "me")
         slotted = Slotted([1, 2])
         slotted.tag, slotted.more = [3], [4]
+        samples = Samples(44100, [0.5, 1])
+        samples.more = [1]
         named = Named(["a"])
         named.name = "b"
         document = Document({"a": 1})
         document.path = ["x"]
         return (note, {"author": "me"}), (slotted, {"tag": [3], "more": [4]}), (
-            Bare(b"ab"), {}), (named, {"name": "b"}), (document, {"path": ["x"]})
+            samples, {"rate": 44100, "more": [1]}), (Bare(b"ab"), {}), (named, {"name": "b"}), (document, {"path": ["x"]})
 
     def test_attributes(self):
         for value, attributes in self.made():
@@ -164,6 +197,10 @@ class Subclasses(unittest.TestCase):
             self.assertIs(type(made), Text)
         self.assertIs(type(Slotted([1]) + [2]), List)
         self.assertIs(type(Slotted([1])[:]), List)
+        samples = Samples(1, [1, 2])
+        for made in (samples[:], samples[1:], samples + [3], [3] + samples, samples * 2, Array(samples)):
+            self.assertIs(type(made), Array)
+            self.assertEqual(made.typecode, "d")
         note += "c"
         self.assertIs(type(note), Note)
 
@@ -178,6 +215,12 @@ class Subclasses(unittest.TestCase):
         del note, made
         gc.collect()
         self.assertIsNone(reference())
+        samples = Samples(1, [1, 2])
+        samples.view = samples.edit()
+        reference = weakref.ref(samples)
+        del samples
+        gc.collect()
+        self.assertIsNone(reference())
 
     def test_types_are_collected(self):
         """A type that is gone took its references along."""
@@ -189,7 +232,7 @@ class Subclasses(unittest.TestCase):
         reference = once()
         gc.collect()
         self.assertIsNone(reference())
-        kinds = List, Bytes, Text, Texts, Value
+        kinds = List, Array, Bytes, Text, Texts, Value
         counts = [sys.getrefcount(kind) for kind in kinds]
         for _ in range(1000):
             for make, change in SAMPLES:
@@ -220,6 +263,7 @@ class Pickles(unittest.TestCase):
         """Only memory that values share has an address: what is inside an object has none."""
         for value, has in (
             (List(), False), (List([1]), True), (Bytes(b"x" * 15), False),
+            (Array("d"), False), (Array("b", [1]), True),
             (Bytes(b"x" * 16), True), (Text("x" * 15), False), (Text("\u00e9" * 8), True),
             (Text(), False), (Texts(["x" * 16]), True), (Value(["x" * 16]), True),
             (Texts(), False), (Value([]), False), (Value({}), False), (Value(5), False),
@@ -239,6 +283,7 @@ class Pickles(unittest.TestCase):
     def test_once(self):
         """Values that share memory are stored once, and share memory again."""
         for make in (lambda: List(range(10**4)), lambda: Bytes(bytes(10**5)),
+                     lambda: Array("d", range(10**4)), lambda: Array("H", range(10**4)),
                      lambda: Text("\u00e9" * 50000), lambda: Texts(["x" * 999] * 99),
                      lambda: Value([{"a": "x" * 10**5}, 1])):
             value = make()
@@ -246,7 +291,7 @@ class Pickles(unittest.TestCase):
             many, loaded = self.stored([value.copy() for _ in range(100)])
             self.assertLess(many, alone + 100 * 40)
             both, _ = self.stored([value, make()])
-            if isinstance(value, (List, Bytes, Text)):
+            if isinstance(value, (List, Array, Bytes, Text)):
                 self.assertGreater(both, 2 * (alone - 200))
                 self.assertEqual(len({_core._address(each) for each in loaded}), 1)
             loaded[0].clear()
@@ -280,6 +325,13 @@ class Pickles(unittest.TestCase):
                  Value([[True]]), Value([[1.0]]), Value({"a": 1}), Value([1]), Value([None])]
         _, loaded = self.stored(value)
         self.assertEqual([repr(each) for each in loaded], [repr(each) for each in value])
+        for code, ends in ENDS.items():
+            for value in (Array(code), Array(code, ends)):
+                for protocol in range(pickle.HIGHEST_PROTOCOL + 1):
+                    loaded = pickle.loads(pickle.dumps(value, protocol))
+                    self.assertEqual((loaded.typecode, loaded.tobytes()), (code, value.tobytes()))
+        self.assertEqual(repr(pickle.loads(pickle.dumps(Array("d", [-0.0, float("nan")])))),
+                         "Array('d', [-0.0, nan])")
         nan = float("nan")
         self.assertEqual(pickle.loads(pickle.dumps([Value([nan])] * 2)), [Value([nan])] * 2)
 

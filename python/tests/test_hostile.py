@@ -5,10 +5,10 @@ Run under AddressSanitizer, this sees memory that is read behind such a change."
 import gc
 import unittest
 
-from ecow import Bytes, List, Text, Texts, Value
-from harness import EDITS, draws, outcome
+from ecow import Array, Bytes, List, Text, Texts, Value
+from harness import EDITS, ENDS, draws, outcome
 
-KINDS = (List, Bytes, Text, Texts, Value)
+KINDS = (List, Array, Bytes, Text, Texts, Value)
 OPERATORS = (
     "__add__", "__radd__", "__iadd__", "__mul__", "__imul__", "__mod__", "__getitem__",
     "__setitem__", "__delitem__", "__contains__", "__eq__", "__ne__", "__lt__", "__init__",
@@ -23,7 +23,7 @@ class Trouble:
     """Objects that change some values whenever their code runs."""
 
     def __init__(self, draw):
-        self.draw, self.targets, self.held = draw, [], []
+        self.draw, self.targets, self.held, self.views = draw, [], [], []
         trouble = self
 
         class Index:
@@ -32,6 +32,10 @@ class Trouble:
             def __index__(self):
                 trouble.make()
                 return draw.choice((0, 1, -1, 3, 99, 2**70))
+
+            def __float__(self):
+                trouble.make()
+                return draw.choice((0.5, 1e300))
 
             def __eq__(self, other):
                 trouble.make()
@@ -128,6 +132,9 @@ class Trouble:
         """Changes each target, or gives its memory to others."""
         for each in self.targets:
             way = self.draw.randrange(7)
+            if isinstance(each, Array) and self.draw.random() < 0.3:
+                # A view that writes stays open, or is closed.
+                self.views = [] if self.views else [each.edit()]
             more = {List: [7] * 500, Bytes: b"q" * 500, Text: "\u00e9" * 500,
                     Texts: ["z" * 40] * 50, Value: {"a": [1, "w" * 50]}}.get(type(each))
             try:
@@ -141,14 +148,20 @@ class Trouble:
                     each.__init__(more)
                 elif way == 3:
                     each.truncate(1)
+                elif way == 4 and isinstance(each, Array):
+                    each.extend([7] * 500)
                 elif way == 4:
                     each.append(3 if isinstance(each, (List, Bytes)) else "\u20ac" * 20)
                 elif way == 5:
                     each *= 3
                 else:
                     each.pop()
-            except (AttributeError, IndexError, TypeError, MemoryError):
+            except (AttributeError, BufferError, IndexError, TypeError, MemoryError, ValueError):
                 pass
+        for view in self.views:
+            # What a view writes to is memory of its array still.
+            for at in range(len(view)):
+                view[at] = at % 100
         if self.draw.random() < 0.3:
             self.held = [bytes(self.draw.randrange(20, 600)) for _ in range(5)]
 
@@ -169,6 +182,7 @@ class Trouble:
             lambda: slice(None, Index()), lambda: self.draw.randrange(-5, 5), lambda: None,
             lambda: [self.item() for _ in range(3)], lambda: (Word("a"), Text("\u00e9")),
             lambda: Words([self.item(), 1]), lambda: b"q", lambda: Text("\u00e9a"),
+            lambda: Array(self.draw.choice("bHqfd"), [1, 2, 3] * self.draw.choice((1, 90))),
             lambda: Bytes(b"ab"), lambda: {"k" * 40: Words([1]), "b": [Words([3])]},
             lambda: [Word("a"), Index(), "b"], lambda: memoryview(Bytes(b"a" * 40)),
             lambda: {Word("n" * 30): Ending(), "o": Words([1])}, lambda: self.key,
@@ -181,6 +195,7 @@ class Trouble:
 
 MAKE = {
     List: lambda draw: List(range(draw.choice((0, 3, 300)))),
+    Array: lambda draw: Array(draw.choice(list(ENDS)), [5, 1, 100] * draw.choice((0, 1, 100))),
     Bytes: lambda draw: Bytes(b"ab" * draw.choice((0, 2, 7, 300))),
     Text: lambda draw: Text("a\u00e9" * draw.choice((0, 2, 5, 300))),
     Texts: lambda draw: Texts(["t" * draw.choice((3, 40))] * draw.choice((0, 3, 30))),
@@ -200,7 +215,7 @@ class Hostile(unittest.TestCase):
             fields = {"k" * 30: trouble.kinds[2]([1, 2]), "z": 1}
             trouble.targets = [value, other, fields]
             name = draw.choice([name for name in dir(value)
-                                if name in OPERATORS or (name[0] != "_" and name != "kind")])
+                                if name in OPERATORS or (name[0] != "_" and callable(getattr(value, name)))])
             count = draw.choice((0, 1, 1, 1, 2, 2, 3))
             arguments = [trouble.argument() for _ in range(count)]
             named = {"key": trouble.key} if name == "sort" and count else {}
@@ -217,6 +232,14 @@ class Hostile(unittest.TestCase):
                     RuntimeError, TypeError, ValueError):
                 pass
             trouble.targets = []
+            if trouble.views:
+                # What was written through the view stands in the array, and a copy is refused.
+                array, view = trouble.views[0].obj, trouble.views[0]
+                self.assertEqual(array.tolist(), view.tolist(), name)
+                self.assertIs(outcome(lambda: array.copy()), BufferError, name)
+                trouble.views = []
+                del view
+                self.assertEqual(array.copy().tolist(), array.tolist(), name)
             seen.add((kind, name))
             if isinstance(value, Text):
                 self.assertEqual(len(value.encode().decode()), len(value), name)
@@ -224,7 +247,7 @@ class Hostile(unittest.TestCase):
             gc.collect(0)
         if EDITS >= 2000:
             every = {(kind, name) for kind in KINDS for name in dir(kind)
-                     if name in OPERATORS or (name[0] != "_" and name != "kind")}
+                     if name in OPERATORS or (name[0] != "_" and callable(getattr(kind, name)))}
             self.assertEqual(every - seen, set())
 
     def test_index(self):

@@ -15,8 +15,13 @@ import tempfile
 import threading
 import unittest
 
-from ecow import Bytes, List, Text, Texts, Value
-from harness import EDITS, outcome
+from ecow import Array, Bytes, List, Text, Texts, Value, _core
+from harness import EDITS, ENDS, outcome
+
+try:
+    import numpy
+except ImportError:
+    numpy = None
 
 MIB = 2**20
 
@@ -34,6 +39,9 @@ class Buffers(unittest.TestCase):
             (List(range(5)), lambda value: value.append(9)),
             (List(range(3000)), lambda value: value.clear()),
             (List(), lambda value: value.append(9)),
+            *((Array(code, [1, 2, 3] * count), lambda value: value.append(9))
+              for code in ENDS for count in (0, 2, 1000)),
+            (Array("d", range(40)), lambda value: value.clear()),
             (Bytes(b"inline"), lambda value: value.__setitem__(0, 0)),
             (Bytes(b"fifteen letters"), lambda value: value.append(1)),
             (Bytes(bytes(range(200)) * 20), lambda value: value.reverse()),
@@ -44,8 +52,8 @@ class Buffers(unittest.TestCase):
             self.assertEqual(view.tolist(), before)
             self.assertTrue(view.readonly)
             self.assertTrue(view.c_contiguous)
-            self.assertEqual(view.format, "q" if isinstance(value, List) else "B")
-            self.assertEqual(view.itemsize, 8 if isinstance(value, List) else 1)
+            code = {List: "q", Bytes: "B"}.get(type(value)) or value.typecode
+            self.assertEqual((view.format, view.itemsize), (code, struct.calcsize(code)))
             self.assertEqual(view.shape, (len(before),))
             self.assertEqual(view.nbytes, len(before) * view.itemsize)
             parts = view[1:], view[::-1], view.cast("B")
@@ -64,6 +72,13 @@ class Buffers(unittest.TestCase):
             del kept
 
     def test_readers(self):
+        reals = Array("d", [1.5, -2])
+        self.assertEqual(struct.unpack("2d", reals), (1.5, -2.0))
+        self.assertEqual(array.array("d", reals), array.array("d", [1.5, -2]))
+        self.assertEqual(bytes(reals), reals.tobytes())
+        self.assertIs(outcome(lambda: struct.pack_into("d", reals, 0, 1)), TypeError)
+        with open("/dev/zero", "rb") as file:
+            self.assertIs(outcome(lambda: file.readinto(reals)), TypeError)
         value, numbers = Bytes(b"abcdefghijklmnop"), List([1, -2])
         with tempfile.TemporaryFile() as file:
             self.assertEqual(file.write(value), 16)
@@ -81,6 +96,29 @@ class Buffers(unittest.TestCase):
         with open("/dev/zero", "rb") as file:
             self.assertIs(outcome(lambda: file.readinto(numbers)), TypeError)
 
+    def test_kept(self):
+        """Readers are told to keep a view as long as they use its memory."""
+        slot = ctypes.pythonapi.PyType_GetSlot
+        slot.restype, slot.argtypes = ctypes.c_void_p, (ctypes.py_object, ctypes.c_int)
+        for kind in (List, Array, Bytes):
+            # The numbers of `bf_getbuffer` and `bf_releasebuffer`.
+            self.assertTrue(slot(kind, 1) and slot(kind, 2))
+
+    @unittest.skipUnless(numpy, "this Python has no numpy")
+    def test_numpy(self):
+        """What numpy reads stays, however it was given it, and whatever becomes of the value."""
+        for make in (lambda: List(range(5000)), lambda: Array("d", range(5000)), lambda: Bytes(b"short"),
+                     lambda: Bytes(bytes(range(250)) * 40)):
+            for read in (numpy.asarray, lambda value: numpy.frombuffer(value, numpy.uint8)):
+                value = make()
+                array, before = read(value), bytes(value)
+                for change in (lambda: value.__setitem__(0, 77), lambda: value.extend([1] * 9999),
+                               lambda: value.clear()):
+                    change()
+                    kept = [bytes(b"x" * 40000) for _ in range(30)]
+                    self.assertEqual(array.tobytes(), before)
+                    del kept
+
     def test_inside_a_call(self):
         """A view of a value may be an argument of its own call."""
         value = Bytes(b"abcdefghijklmnop")
@@ -90,6 +128,176 @@ class Buffers(unittest.TestCase):
         numbers = List(range(5))
         numbers[1:1] = memoryview(numbers)
         self.assertEqual(numbers, [0, 0, 1, 2, 3, 4, 1, 2, 3, 4])
+
+
+class Edits(unittest.TestCase):
+    """Views that write to an array in place."""
+
+    # What would change an array otherwise, or share its memory.
+    REFUSED = (
+        lambda value: value.append(1), lambda value: value.insert(0, 1), lambda value: value.pop(),
+        lambda value: value.extend([1]), lambda value: value.remove(value[0]), lambda value: value.clear(),
+        lambda value: value.truncate(1), lambda value: value.reserve(1), lambda value: value.reverse(),
+        lambda value: value.sort(), lambda value: value.frombytes(value[1:].tobytes()),
+        lambda value: value.__setitem__(0, 1), lambda value: value.__delitem__(0),
+        lambda value: value.__setitem__(slice(0, 1), [1]), lambda value: value.__delitem__(slice(0, 2)),
+        lambda value: value.__setitem__(slice(0, 3, 2), [1, 2]),
+        lambda value: value.__delitem__(slice(0, 3, 2)), lambda value: value.__delitem__(slice(None)),
+        lambda value: value.__iadd__([1]), lambda value: value.__iadd__(value),
+        lambda value: value.__imul__(2), lambda value: value.__imul__(0), lambda value: value.__imul__(-1),
+        lambda value: value.copy(), lambda value: copy.copy(value), lambda value: copy.deepcopy(value),
+        lambda value: value[:], lambda value: value + [1], lambda value: value * 2, lambda value: value * 1,
+        lambda value: Array(value), lambda value: Array(value.typecode, value),
+        lambda value: Array(value.typecode).extend(value), lambda value: memoryview(value),
+        lambda value: bytes(value), lambda value: value.tobytes(), lambda value: pickle.dumps(value),
+        lambda value: array.array(value.typecode).frombytes(value), lambda value: [1] + value,
+        lambda value: Array(value.typecode, [1] * 9).__setitem__(slice(0, 2), value),
+        lambda value: memoryview(value.edit().obj),
+    )
+
+    def test_in_place(self):
+        """A view writes to the items where they are, once nothing else shares them."""
+        for code in ENDS:
+            for count in (1, 3, 1000):
+                value = Array(code, [1, 2, 3] * count)
+                place = _core._address(value)
+                with value.edit() as view:
+                    self.assertFalse(view.readonly)
+                    self.assertEqual((view.format, view.itemsize), (code, struct.calcsize(code)))
+                    self.assertEqual((view.shape, view.tolist()), ((3 * count,), [1, 2, 3] * count))
+                    view[1] = 7
+                    view[-1] = 9
+                    self.assertEqual(value[1], 7)
+                self.assertEqual(value, [1, 7, 3, *([1, 2, 3] * count)[3:]][:-1] + [9])
+                self.assertEqual(_core._address(value), place)
+                self.assertIs(outcome(lambda: view[0]), ValueError)
+                value.append(5)
+                self.assertEqual(value.pop(), 5)
+        with Array("d").edit() as view:
+            self.assertEqual((view.tolist(), view.nbytes), ([], 0))
+
+    def test_shared(self):
+        """No copy or view that was made before sees what is written, and none is made meanwhile."""
+        for code in ENDS:
+            value = Array(code, [1, 2, 3] * 20)
+            kept = [value.copy(), value[:], memoryview(value), pickle.loads(pickle.dumps(value)), Value(value),
+                    Array(value), value * 1, memoryview(value.copy())[1:].obj and value[::1]]
+            with value.edit() as view:
+                for at in range(60):
+                    view[at] = 50
+            self.assertTrue(all(list(each) == [1, 2, 3] * 20 for each in kept))
+            self.assertEqual(value, [50] * 60)
+            # A source that was cloned is another's for good.
+            other = value.copy()
+            with value.edit() as view, other.edit() as second:
+                view[0], second[0] = 1, 2
+            self.assertEqual((value[0], other[0]), (1, 2))
+
+    def test_refused(self):
+        """As long as a view is open, what would move or share the items raises a BufferError."""
+        for code in ENDS:
+            value = Array(code, [5, 6, 7, 8])
+            place = _core._address(value)
+            view = value.edit()
+            for number, call in enumerate(self.REFUSED):
+                self.assertIs(outcome(lambda: call(value)), BufferError, number)
+                self.assertEqual(value, [5, 6, 7, 8])
+                self.assertEqual(_core._address(value), place)
+                view[0] = 5
+            # These read only.
+            self.assertEqual((len(value), value[3], value[1:3].tolist(), value.tolist(), value.index(7)),
+                             (4, 8, [6, 7], [5, 6, 7, 8], 2))
+            self.assertEqual((6 in value, value == [5, 6, 7, 8], value < [6], value.count(5), sum(value)),
+                             (True, True, True, 1, 26))
+            self.assertEqual(value.hash(), Array(code, [5, 6, 7, 8]).hash())
+            self.assertEqual(repr(value), repr(Array(code, [5, 6, 7, 8])))
+            self.assertIs(value.__imul__(1), value)
+            view.release()
+            for number, call in enumerate(self.REFUSED[:3]):
+                self.assertIsNot(outcome(lambda: call(value)), BufferError)
+
+    def test_open(self):
+        """The items stay where they are as long as anything of a view is open."""
+        value = Array("d", [1, 2, 3])
+        with value.edit() as view:
+            part, cast, second = view[1:], view.cast("B"), value.edit()
+        self.assertIs(outcome(lambda: view[0]), ValueError)
+        for each in (part, second):
+            each[0] = 9
+            self.assertIs(outcome(lambda: value.append(1)), BufferError)
+        part.release()
+        self.assertIs(outcome(lambda: value.copy()), BufferError)
+        cast.release()
+        self.assertIs(outcome(lambda: value.copy()), BufferError)
+        second.release()
+        second.release()
+        self.assertEqual(value.copy(), [9, 9, 3])
+        value.append(4)
+        # What outlives the block writes to the array still, which stays as it lies.
+        with value.edit() as view:
+            numbers = (ctypes.c_double * 4).from_buffer(view)
+        # One that reads the view itself makes the block's end fail.
+        with self.assertRaises(BufferError):
+            with value.edit() as view:
+                reader = pickle.PickleBuffer(view)
+        numbers[0] = 0.5
+        view[1] = 1.5
+        for _ in range(2):
+            self.assertEqual(value, [0.5, 1.5, 3, 4])
+            self.assertIs(outcome(lambda: value.append(1)), BufferError)
+            numbers = None
+            gc.collect()
+        reader.release()
+        view.release()
+        value.append(5)
+        self.assertEqual(value, [0.5, 1.5, 3, 4, 5])
+        # The view keeps the array, and an error in the block ends the view.
+        view = Array("i", [1, 2]).edit()
+        gc.collect()
+        view[0] = 7
+        self.assertEqual(view.obj, [7, 2])
+        with self.assertRaises(ZeroDivisionError):
+            with value.edit() as view:
+                view[0] = 1 / 0
+        value.append(6)
+        # The array's own buffer can't be written to, whatever was asked for before.
+        self.assertTrue(memoryview(value).readonly)
+
+    @unittest.skipUnless(numpy, "this Python has no numpy")
+    def test_numpy(self):
+        """numpy reads an array without a copy, and writes to one through a view."""
+        for code in ENDS:
+            value = Array(code, [1, 2, 3] * 1000)
+            read = numpy.asarray(value)
+            self.assertEqual(read.dtype, numpy.dtype(code))
+            self.assertEqual(read.ctypes.data, _core._address(value))
+            self.assertFalse(read.flags.writeable)
+            self.assertIs(outcome(lambda: read.__setitem__(0, 5)), ValueError)
+            self.assertFalse(numpy.frombuffer(value, code).flags.writeable)
+            value[0] = 9
+            self.assertEqual((read[0], value[0]), (1, 9))
+            place = _core._address(value)
+            with value.edit() as view:
+                written = numpy.asarray(view)
+                self.assertEqual(written.ctypes.data, place)
+                written[:] += 1
+                del written
+            self.assertEqual(value, [10, 3, 4, *[2, 3, 4] * 999])
+            self.assertEqual(read.tolist(), [1, 2, 3] * 1000)
+            self.assertEqual(Array(code, read), [1, 2, 3] * 1000)
+            self.assertEqual(Array(code, read[::2]), ([1, 2, 3] * 1000)[::2])
+            for make in (numpy.asarray, lambda view: numpy.frombuffer(view, code)):
+                # An array of numpy's that outlives the block writes still.
+                with value.edit() as view:
+                    kept = make(view)
+                kept[0] = 7
+                self.assertEqual(value[0], 7)
+                for call in self.REFUSED:
+                    self.assertIs(outcome(lambda: call(value)), BufferError)
+                self.assertEqual(value[0], 7)
+                del kept
+                value.append(1)
+        self.assertIs(outcome(lambda: Array("d", numpy.zeros((2, 2)))), TypeError)
 
 
 class Mallinfo(ctypes.Structure):
@@ -135,6 +343,7 @@ class Given(unittest.TestCase):
     def test_leaks(self):
         """No call keeps what it made, whether it succeeds or raises an error."""
         numbers, data, text = List(range(100)), Bytes(bytes(100)), Text("\u00e9" * 100)
+        reals = Array("d", range(100))
         texts, value = Texts(["x" * 100] * 10), Value({"a": [{"b": "x" * 100}]})
         note, tagged = Note("x" * 99), Tagged([1] * 99)
         note.own, tagged.tag, tagged.own = ["y"], ["z"], note
@@ -177,6 +386,24 @@ class Given(unittest.TestCase):
             lambda: value["a"][:], lambda: value.part(["a", 0, "b"]), lambda: "a" in value,
             lambda: list(value["a"]), lambda: value["a"].extend([1, {2}]), lambda: value["a"].pop(),
             lambda: value.get(["a", 0, "b", "c"]), lambda: repr(value),
+            lambda: reals.copy().append(1), lambda: reals[3:90], lambda: reals[::-2],
+            lambda: reals + [1], lambda: reals + [1, "x"], lambda: [1] + reals, lambda: reals * 3,
+            lambda: Array("d", range(100)), lambda: Array("d", ["x"]), lambda: Array("x"), lambda: Array(5),
+            lambda: Array("h", bytes(99)), lambda: Array("h", bytes(98)), lambda: Array("q", [Index()]),
+            lambda: Array("Q", [Index(), -1]), lambda: Array("f", reals), lambda: Array("b", reals),
+            lambda: Array("i", [1]).extend(reals), lambda: Array("d", reals), lambda: Array(reals),
+            lambda: reals.edit(), lambda: reals.edit()[3:], lambda: reals.copy().edit(),
+            lambda: [reals.edit(), reals.copy()], lambda: [reals.edit(), reals.append(1)],
+            lambda: [reals.edit(), memoryview(reals)], lambda: memoryview(reals)[3:], lambda: reals.tolist(),
+            lambda: [reals.edit(), reals.__imul__(2)], lambda: [reals.edit(), reals.__delitem__(slice(0, 9, 2))],
+            lambda: reals == reals.copy(), lambda: reals < list(reals), lambda: reals == Array("i", [1] * 100),
+            lambda: reals.tobytes(), lambda: repr(reals), lambda: reals.copy().frombytes(bytes(80)),
+            lambda: reals.copy().frombytes(b"1"), lambda: reals.copy().__setitem__(slice(0, 9, 2), [1]),
+            lambda: reals.copy().__delitem__(slice(0, 90, 3)), lambda: reals.copy().sort(), lambda: reals.index("x"),
+            lambda: reals.typecode, lambda: pickle.loads(pickle.dumps(reals)), lambda: reals.copy().reverse(),
+            lambda: Array("d", array.array("d", [1] * 99)), lambda: Array("d", array.array("i", [1] * 99)),
+            lambda: Array("d", [1] * 99).__setitem__(slice(1, 2), Array("d", [1] * 99)),
+            lambda: Array("d", [1] * 99).__init__("d"), lambda: Array.__new__(Array).append(1),
             # Each with a value that nobody else holds, as an argument of its own kind.
             lambda: List(range(99)).extend(List(range(99))), lambda: List(range(99)) + List([1]),
             lambda: List(range(99)) + [1, "x"], lambda: [1] + List(range(99)),
@@ -230,28 +457,41 @@ class Given(unittest.TestCase):
     def test_shared(self):
         """Copies and views of a large value take no memory of its size."""
         for value in (List(range(MIB // 8)), Bytes(bytes(MIB)), Text("a" * MIB), Value("a" * MIB),
-                      Texts(["a" * 999] * 1000)):
+                      Texts(["a" * 999] * 1000), Array("d", bytes(MIB)), Array("b", bytes(MIB))):
             before = resident()
             kept = [value.copy() for _ in range(200)]
-            if isinstance(value, (List, Bytes)):
+            if isinstance(value, (List, Array, Bytes)):
                 kept += [memoryview(value) for _ in range(200)]
             self.assertLess(resident() - before, 10 * MIB)
-            self.assertEqual(kept[-1], value)
+            self.assertEqual(list(kept[-1]) if isinstance(value, Array) else kept[-1],
+                             list(value) if isinstance(value, Array) else value)
+        # Nor does writing in place.
+        value = Array("d", bytes(64 * MIB))
+        before = resident()
+        with value.edit() as view:
+            view[5] = 1.5
+        self.assertLess(resident() - before, 10 * MIB)
+        self.assertEqual(value[5], 1.5)
 
 
 REFUSED = """
 import resource
-from ecow import Bytes, List, Text, Texts, Value
+from ecow import Array, Bytes, List, Text, Texts, Value
 
+reals = Array("d", range(9))
 numbers, data, text = List(range(9)), Bytes(b"sixteen letters!"), Text("sixteen letters!")
 texts, value = Texts(["a"]), Value([1])
-shared = numbers.copy(), data.copy(), text.copy()
+shared = numbers.copy(), data.copy(), text.copy(), reals.copy()
+large = Array("d", bytes(2**27))
+kept = large.copy()
 resource.setrlimit(resource.RLIMIT_AS, (2**28, resource.RLIM_INFINITY))
 refused = 0
 for call in (
     lambda: numbers.reserve(2**27), lambda: data.reserve(2**30), lambda: text.reserve(2**30),
     lambda: texts.reserve(2**26), lambda: numbers * 2**26, lambda: data * 2**27,
     lambda: text * 2**27, lambda: texts * 2**26, lambda: numbers.__imul__(2**26),
+    lambda: reals.reserve(2**27), lambda: reals * 2**26, lambda: reals.__imul__(2**26),
+    lambda: large.edit(), lambda: large.append(1), lambda: large.frombytes(kept),
     lambda: data.__imul__(2**27), lambda: text.__imul__(2**27), lambda: texts.__imul__(2**26),
 ):
     try:
@@ -259,11 +499,14 @@ for call in (
     except MemoryError:
         refused += 1
 resource.setrlimit(resource.RLIMIT_AS, (resource.RLIM_INFINITY, resource.RLIM_INFINITY))
-assert refused == 12, refused
+assert refused == 18, refused
+assert reals == list(range(9)) == list(shared[3]) and len(large) == len(kept) == 2**24
+with reals.edit() as view:
+    view[0] = 0.0
 assert numbers == list(range(9)) == list(shared[0])
 assert data == b"sixteen letters!" == shared[1] and text == "sixteen letters!" == shared[2]
 assert texts == ["a"] and value == [1]
-for each in (numbers, data, texts, value):
+for each in (numbers, data, texts, value, reals, large):
     each.append(97 if each is not texts else "b")
 print("refused")
 """
@@ -343,27 +586,33 @@ class Threads(unittest.TestCase):
     def test_copies(self):
         """Threads change copies of the same values, and none sees what another wrote."""
         numbers, text = List(range(100)), Text("a text that spills")
-        value, wrong = Value({"a": [1, 2]}), []
+        value, reals, wrong = Value({"a": [1, 2]}), Array("d", range(100)), []
 
-        def churn(number, numbers, text, value):
+        def churn(number, numbers, text, value, reals):
             for at in range(max(100, EDITS // 20)):
                 other, longer, deep = numbers.copy(), text.copy(), value.copy()
+                halves = reals.copy()
+                with halves.edit() as view:
+                    view[0] = at / 2
                 other[0] = at
                 other.append(number)
                 longer.append("!")
                 deep.set(["a", 0], number)
-                if (other != [at, *range(1, 100), number] or numbers != list(range(100))
+                if (halves != [at / 2, *range(1, 100)] or reals != list(range(100))
+                        or other != [at, *range(1, 100), number] or numbers != list(range(100))
                         or longer != "a text that spills!" or text != "a text that spills"
                         or deep != {"a": [number, 2]} or value != {"a": [1, 2]}):
                     wrong.append(number)
 
         running = [
-            threading.Thread(target=churn, args=(number, numbers.copy(), text.copy(), value.copy()))
+            threading.Thread(
+                target=churn,
+                args=(number, numbers.copy(), text.copy(), value.copy(), reals.copy()))
             for number in range(8)
         ]
         for each in running:
             each.start()
-        del numbers, text, value
+        del numbers, text, value, reals
         for each in running:
             each.join()
         self.assertEqual(wrong, [])
@@ -406,6 +655,14 @@ class Modules(unittest.TestCase):
         self.assertNotEqual(theirs, ours)
         self.assertEqual(List(theirs), ours)
         self.assertIs(outcome(lambda: ours + theirs), TypeError)
+        reals = other.Array("d", [1.5])
+        self.assertEqual(Array("d", reals), [1.5])
+        self.assertNotEqual(reals, Array("d", [1.5]))
+        self.assertIs(outcome(lambda: Array("d") + reals), TypeError)
+        ours = Array("d", reals)
+        with reals.edit() as view, ours.edit() as second:
+            view[0], second[0] = 1, 2
+        self.assertEqual((list(reals), list(ours)), ([1], [2]))
         self.assertEqual(other.Bytes(b"a"), Bytes(b"a"))
         self.assertIs(outcome(lambda: Text(other.Text("a"))), TypeError)
 

@@ -1,26 +1,32 @@
-"""`List` beside `list`, `Bytes` beside `bytearray`, `Texts` beside a list of `str`."""
+"""`List` beside `list`, `Array` beside `list` and `array.array`, `Bytes` beside `bytearray`, `Texts`
+beside a list of `str`."""
 
+import array
+import functools
+import itertools
+import math
 import operator
+import struct
 import time
 import unittest
 
-from ecow import Bytes, LentText, List, Text, Texts, Value
-from harness import EDITS, LENGTHS, Pool, done, draws, list_edits, outcome, plain
+from ecow import Array, Bytes, LentText, List, Text, Texts, Value
+from harness import EDITS, ENDS, LENGTHS, Pool, done, draws, list_edits, number, outcome, plain
 
 WORDS = ("", "a", "fifteen letters", "sixteen letters!", "\u00e9", "\u20ac" * 5, "\U0001f331" * 400)
 
 
 class Differential(unittest.TestCase):
-    def edit(self, kind, model, item, others):
+    def edit(self, kind, model, item, others, name="", edits=EDITS):
         """Random edits of a kind of value and of its model. `others` are calls of one kind."""
-        draw = draws(kind.__name__)
+        draw = draws(name or kind.__name__)
 
         def made():
             items = [item(draw) for _ in range(draw.choice(LENGTHS))]
             return [kind(items), model(items)]
 
         pool = Pool(self, draw, made)
-        for edit in range(EDITS):
+        for edit in range(edits):
             pair = pool.pick()
             span = len(pair[1]) + 4
             index, other = draw.randint(-span, span), draw.randint(-span, span)
@@ -88,6 +94,57 @@ class Differential(unittest.TestCase):
                 lambda each: done(each.__iadd__(tuple(few))),
             ),
         )
+
+    def test_array(self):
+        for code in ENDS:
+            self.edit(
+                functools.partial(Array, code), list, lambda draw: number(draw, code),
+                lambda draw, index, other, one, few: (
+                    lambda each: each.sort(),
+                    lambda each: each.sort(key=abs, reverse=True),
+                    lambda each: done(each.__iadd__(tuple(few))),
+                    lambda each: each.extend(array.array(code, few)),
+                    lambda each: done(each.__iadd__(Array(code, few))),
+                    lambda each: each.__setitem__(slice(index, other), memoryview(Array(code, few))),
+                ),
+                code, EDITS // 4,
+            )
+
+    def test_beside_array(self):
+        """The same calls on an `array.array`, with arrays of each as arguments."""
+        for code in ENDS:
+            draw = draws(f"beside {code}")
+            for _ in range(max(3, EDITS // 300)):
+                items = [number(draw, code) for _ in range(draw.choice((0, 3, 16, 1025)))]
+                both = Array(code, items), array.array(code, items)
+                for _ in range(30):
+                    span = len(both[1]) + 4
+                    index, other = draw.randint(-span, span), draw.randint(-span, span)
+                    # An `array.array` loses the items of a slice with a step that is given none.
+                    one, few = number(draw, code), [number(draw, code) for _ in range(draw.randrange(1, 6))]
+                    part = slice(index, other, draw.choice((None, 2, -1, -3)))
+                    call = draw.choice((
+                        *list_edits(index, other, part, one, (), (), draw.randrange(4))[:9],
+                        lambda each: each.__delitem__(part),
+                        lambda each: each.__setitem__(part, type(each)(code, few)),
+                        lambda each: each.__setitem__(part, each[part]),
+                        lambda each: done(each.__iadd__(type(each)(code, few))),
+                        lambda each: each.extend(type(each)(code, few)),
+                        lambda each: each + type(each)(code, few), lambda each: each * 2,
+                        lambda each: each[part], lambda each: each[index], lambda each: one in each,
+                        lambda each: each.index(one, index, other), lambda each: each.count(one),
+                        lambda each: each.tobytes(), lambda each: each.tolist(), lambda each: len(each),
+                        lambda each: each.frombytes(type(each)(code, few).tobytes()),
+                        lambda each: each == type(each)(code, few), lambda each: bytes(each),
+                        lambda each: each < type(each)("b", [1]), lambda each: each.typecode,
+                        lambda each: each >= type(each)("d", [0.5]), lambda each: each.itemsize,
+                        lambda each: each.frombytes(b"123"), lambda each: each + type(each)("b"),
+                        lambda each: each.extend(type(each)("bB"[code == "b"], [1])),
+                        lambda each: type(each)(code, each), lambda each: memoryview(each).tolist(),
+                        lambda each: memoryview(each).format, lambda each: sum(each),
+                    ))
+                    self.assertEqual(outcome(lambda: call(both[0])), outcome(lambda: call(both[1])), code)
+                    self.assertEqual(both[0].tobytes(), both[1].tobytes())
 
     def test_bytes(self):
         self.edit(
@@ -318,11 +375,253 @@ class Lists(unittest.TestCase):
                 self.fail("a List is matched as a sequence")
 
 
+class Arrays(unittest.TestCase):
+    def test_numbers(self):
+        """A number that an item doesn't have is refused, wherever it stands, and nothing changes."""
+        for code, ends in ENDS.items():
+            value = Array(code, ends)
+            self.assertEqual(list(value), list(ends))
+            self.assertEqual(value.tobytes(), struct.pack(f"@2{code}", *ends))
+            self.assertEqual((value.typecode, value.itemsize), (code, struct.calcsize(code)))
+            self.assertEqual(repr(value), f"Array('{code}', [{ends[0]!r}, {ends[1]!r}])")
+            over = (10**400, -(10**400)) if code in "fd" else (ends[0] - 1, ends[1] + 1, 2**64, -(2**64))
+            wrong = [(one, OverflowError) for one in over]
+            wrong += [(one, TypeError) for one in ("1", None, [1], 1j, b"1")]
+            wrong += [] if code in "fd" else [(1.0, TypeError)]
+            for one, error in wrong:
+                for call in (
+                    lambda: value.append(one), lambda: value.insert(0, one),
+                    lambda: value.extend([1, one]), lambda: value.extend(each for each in (1, one)),
+                    lambda: value.__setitem__(0, one), lambda: value.__setitem__(slice(1, 2), [one]),
+                    lambda: value.__setitem__(slice(0, 2, 2), [one]), lambda: value.__iadd__([1, one]),
+                    lambda: value + [one], lambda: [one] + value, lambda: Array(code, [one]),
+                ):
+                    self.assertIs(outcome(call), error, (code, one))
+                self.assertNotIn(one, value)
+                self.assertEqual(value.count(one), 0)
+                self.assertEqual(list(value), list(ends))
+
+    def test_conversions(self):
+        """A type is made of items as `array.array` makes it, which rounds floats of 32 bits."""
+        class Real:
+            def __float__(self):
+                return 0.1
+
+        class Index:
+            def __index__(self):
+                return 5
+
+        self.assertEqual(Array("d", [True, 2, Real(), Index()]), [1.0, 2.0, 0.1, 5.0])
+        self.assertEqual(Array("f", [0.1, 1e300, -1e300])[:], list(array.array("f", [0.1, 1e300, -1e300])))
+        self.assertNotIn(0.1, Array("f", [0.1]))
+        for code in "bBhHiIlLqQ":
+            self.assertEqual(Array(code, [True, Index()]), [1, 5])
+        for one, other in itertools.product(ENDS, ENDS):
+            items = [0, 1, 127]
+            if one in "fd" and other not in "fd":
+                self.assertIs(outcome(lambda: Array(other, Array(one, items))), TypeError)
+                self.assertIs(outcome(lambda: Array(other, array.array(one, items))), TypeError)
+            else:
+                made = Array(other, Array(one, items))
+                self.assertEqual((made.typecode, list(made)), (other, items))
+                self.assertEqual(list(Array(other, array.array(one, items))), items)
+                self.assertEqual([type(each) for each in made], [float if other in "fd" else int] * 3)
+            extended = Array(other, [1])
+            self.assertIs(outcome(lambda: extended.extend(Array(one, items))),
+                          None if one == other else TypeError)
+            self.assertIs(outcome(lambda: extended.__setitem__(slice(0, 0), Array(one, []))),
+                          None if one == other else TypeError)
+            self.assertIs(outcome(lambda: extended + Array(one, items)) is TypeError, one != other)
+            self.assertEqual(extended, [1, *items] if one == other else [1])
+            self.assertEqual(Array(one, items), Array(other, items))
+            self.assertNotEqual(Array(one, items), Array(other, items[:2]))
+            self.assertLess(Array(one, items), Array(other, [0, 2]))
+            self.assertEqual(Array(one, items).hash() == Array(other, items).hash(),
+                             array.array(one, items).tobytes() == array.array(other, items).tobytes())
+        self.assertIs(outcome(lambda: Array("b", Array("i", [128]))), OverflowError)
+
+    def test_not_a_number(self):
+        nan = math.nan
+        for code in "fd":
+            value = Array(code, [nan, 1.0])
+            self.assertNotEqual(value, value)
+            self.assertIs(value == value.copy(), False)
+            self.assertIs(value != value.copy(), True)
+            self.assertNotIn(nan, value)
+            self.assertEqual(value.count(nan), 0)
+            for compare in (operator.lt, operator.le, operator.gt, operator.ge):
+                self.assertIs(compare(value, value), compare(array.array(code, [nan]), array.array(code, [nan])))
+            self.assertTrue(math.isnan(value[0]))
+            self.assertEqual(Array(code, [0.0]), Array(code, [-0.0]))
+            self.assertEqual(str(Array(code, [-0.0])[0]), "-0.0")
+            self.assertEqual(value.hash(), value.copy().hash())
+
+    def test_made(self):
+        """The type is given once, and bytes are those that items have in memory."""
+        for call in (lambda: Array(), lambda: Array(5), lambda: Array(None), lambda: Array(b"d"),
+                     lambda: Array("d", 5), lambda: Array("d", [1], [2]), lambda: Array("d", items=[1]),
+                     lambda: Array([1.0]), lambda: Array(Array("d"), Array("d")), lambda: Array("d", ["x"])):
+            self.assertIs(outcome(call), TypeError)
+        for code in ("", "u", "w", "x", "dd", "D", "@d", "c", "?", "n", "e"):
+            self.assertIs(outcome(lambda: Array(code)), ValueError)
+            self.assertIs(outcome(lambda: Array(code, [1])), ValueError)
+        self.assertEqual(Array("h", struct.pack("@3h", 1, -2, 3)), [1, -2, 3])
+        self.assertEqual(Array("h", bytearray(struct.pack("@h", 7))), [7])
+        self.assertEqual(Array("h", memoryview(b"ab")), [97, 98])
+        self.assertEqual(Array("d", Bytes(b"ab")), [97, 98])
+        self.assertIs(outcome(lambda: Array("h", b"123")), ValueError)
+        value = Array("h", [1])
+        for data in (b"1", b"123", bytearray(b"1")):
+            self.assertIs(outcome(lambda: value.frombytes(data)), ValueError)
+        for data in (5, "ab", [1], None):
+            self.assertIs(outcome(lambda: value.frombytes(data)), TypeError)
+        value.frombytes(memoryview(struct.pack("@2h", 2, 3)))
+        value.frombytes(value)
+        value.frombytes(b"")
+        self.assertEqual(value, [1, 2, 3] * 2)
+        for arguments in (("h",), ("d",), ("h", [5]), (value,), (Array("d"),)):
+            self.assertIs(outcome(lambda: value.__init__(*arguments)), ValueError)
+        self.assertEqual((value.typecode, list(value)), ("h", [1, 2, 3] * 2))
+        with self.assertRaises(AttributeError):
+            value.typecode = "d"
+        # Without an `__init__` there is no type, and so no item.
+        bare = Array.__new__(Array)
+        self.assertEqual((bare.typecode, bare.itemsize, len(bare), list(bare)), (None, 0, 0, []))
+        for call in (lambda: bare.append(1), lambda: bare.extend([1]), lambda: bare.reserve(5),
+                     lambda: bare.insert(0, 1), lambda: bare.edit(), lambda: bare + [1],
+                     lambda: bare.__setitem__(slice(0, 0), [1]), lambda: bare.__setitem__(0, 1),
+                     lambda: bare.extend(Array("d", [1])), lambda: Array("d").extend(bare)):
+            self.assertIs(outcome(call), TypeError)
+        self.assertIs(outcome(lambda: bare.pop()), IndexError)
+        self.assertEqual(repr(bare), "Array(None, [])")
+        self.assertEqual(memoryview(bare).tolist(), [])
+        bare.__init__("i", [1])
+        self.assertEqual(bare, [1])
+
+        class Late:
+            def __index__(self):
+                late.__init__("b", [1, 2, 3])
+                return 0
+
+        late = Array.__new__(Array)
+        for call in (lambda: late.append(Late()), lambda: late[Late()], lambda: late.insert(Late(), 9)):
+            late = Array.__new__(Array)
+            outcome(call)
+            self.assertIn(list(late), ([], [1, 2, 3], [9, 1, 2, 3]))
+
+    def test_code_that_changes_the_value(self):
+        """A call that runs a caller's code uses the value as that leaves it."""
+        class Shrinks:
+            def __index__(self):
+                value.clear()
+                return 3
+
+            def __float__(self):
+                value.clear()
+                return 3.0
+
+        for code in ENDS:
+            for call in (
+                lambda: value[Shrinks()], lambda: value.__setitem__(Shrinks(), 1),
+                lambda: value.__setitem__(3, Shrinks()), lambda: value.__delitem__(Shrinks()),
+                lambda: value.pop(Shrinks()),
+            ):
+                value = Array(code, range(100))
+                self.assertIs(outcome(call), IndexError)
+                self.assertEqual(value, [])
+            value = Array(code, range(100))
+            self.assertEqual(value[Shrinks():], [])
+            value = Array(code, range(100))
+            value.insert(50, Shrinks())
+            self.assertEqual(value, [3])
+            value = Array(code, range(100))
+            value.extend([1, Shrinks()])
+            self.assertEqual(value, [1, 3])
+
+    def test_sources(self):
+        """What has the same items in one run is copied; all else is read one by one."""
+        for code in ENDS:
+            items = [0, 1, 2, 3, 4, 5]
+            view = memoryview(array.array(code, items))
+            for source in (view, view[1:], view[::2], view[::-1], view.cast("B"), tuple(items), iter(items),
+                           dict.fromkeys(items), List(items), memoryview(List(items)), range(6)):
+                wanted = items if hasattr(source, "__next__") else list(source)
+                self.assertEqual(Array(code, source), wanted)
+        self.assertEqual(Array("d", memoryview(array.array("d", [1.5, 2.5])).cast("B").cast("d")), [1.5, 2.5])
+        self.assertIs(outcome(lambda: Array("i", array.array("d", [1.5]))), TypeError)
+        self.assertIs(outcome(lambda: Array("q", array.array("Q", [2**63]))), OverflowError)
+        self.assertEqual(Array("Q", array.array("Q", [2**63])), [2**63])
+        self.assertEqual(List(Array("q", [2**63 - 1, -1])), [2**63 - 1, -1])
+        self.assertEqual(List(Array("b", [1, -1])), [1, -1])
+        self.assertIs(outcome(lambda: List(Array("d", [1.0]))), TypeError)
+        self.assertEqual(Value(Array("d", [1.5, 2])), [1.5, 2.0])
+        self.assertEqual(Value([1.5, 2]), Array("d", [1.5, 2]))
+        self.assertNotEqual(Value([1.5, 2]), Array("d", [1.5, 3]))
+
+    def test_plus(self):
+        value = Array("d", [1.5])
+        self.assertIs(type(value + [2]), Array)
+        self.assertEqual(repr(value + [2]), "Array('d', [1.5, 2.0])")
+        self.assertEqual(repr([2] + value), "Array('d', [2.0, 1.5])")
+        self.assertEqual(repr([2] + Array("d")), "Array('d', [2.0])")
+        self.assertEqual(repr(Array("d") + Array("d")), "Array('d', [])")
+        self.assertEqual(repr(value[5:] * 3), "Array('d', [])")
+        self.assertEqual(repr(value * 0), "Array('d', [])")
+        kept = value
+        value += (2, 3)
+        self.assertIs(kept, value)
+        value *= 2
+        self.assertEqual(kept, [1.5, 2, 3, 1.5, 2, 3])
+        del value[::2]
+        value.append(0.5)
+        self.assertEqual(repr(kept), "Array('d', [2.0, 1.5, 3.0, 0.5])")
+        value *= 0
+        value.append(7)
+        self.assertEqual(repr(kept), "Array('d', [7.0])")
+        for other in ((1,), 1, "1", Bytes(b"1"), Texts(["1"]), List([1]), array.array("d", [1])):
+            self.assertIs(outcome(lambda: value + other), TypeError)
+            self.assertIs(outcome(lambda: other + value), TypeError)
+        for other in ((1.5,), Bytes(), Texts(), List(), 1, None):
+            self.assertIs(outcome(lambda: value < other), TypeError)
+            self.assertNotEqual(value, other)
+        self.assertNotEqual(Array("B", b"a"), Bytes(b"a"))
+        self.assertNotEqual(Bytes(b"a"), Array("B", b"a"))
+        self.assertIsNone(Array.__hash__)
+        self.assertIs(outcome(lambda: hash(value)), TypeError)
+        # SipHash-1-3 of no bytes but those of the items, whatever their type is.
+        self.assertEqual(Array("i", [1, -1]).hash(), Array("B", struct.pack("@2i", 1, -1)).hash())
+        self.assertNotEqual(Array("i", [1]).hash(), Array("i", [2]).hash())
+
+    def test_limits(self):
+        far = 2**70
+        value = Array("i", [1, 2])
+        value.insert(far, 3)
+        value.insert(-far, 0)
+        value.truncate(far)
+        self.assertEqual(value[-far:far], [0, 1, 2, 3])
+        for index in (far, -far, 4, -5):
+            for call in (lambda: value[index], lambda: value.pop(index), lambda: value.__delitem__(index),
+                         lambda: value.__setitem__(index, 1)):
+                self.assertIs(outcome(call), IndexError)
+        for count, error in ((2**63 - 1, OverflowError), (2**61, OverflowError), (2**60, MemoryError),
+                             (-1, ValueError)):
+            self.assertIs(outcome(lambda: value.reserve(count)), error)
+        self.assertIs(outcome(lambda: Array("b").reserve(2**61)), MemoryError)
+        self.assertIs(outcome(lambda: value.truncate(-1)), ValueError)
+        self.assertIs(outcome(lambda: value * 2**61), MemoryError)
+        self.assertIs(outcome(lambda: value.__imul__(2**60)), OverflowError)
+        self.assertIs(outcome(lambda: Array("i").pop()), IndexError)
+        self.assertEqual(value, [0, 1, 2, 3])
+
+
 class Orders(unittest.TestCase):
     def test_orders(self):
         """Order, equality and hash are those of the contents, beside each kind's peers too."""
         for kind, models in (
             (List, [[], [-1], [-1, 5], [0], [1], [1, -9], [2**63 - 1]]),
+            (functools.partial(Array, "i"), [[], [-1], [-1, 5], [0], [256], [1, -9], [2**31 - 1]]),
+            (functools.partial(Array, "H"), [[], [0], [1], [256], [1, 9], [2**16 - 1]]),
+            (functools.partial(Array, "d"), [[], [-1.5], [-1.5, 5.0], [0.5], [1e300], [math.inf], [-math.inf]]),
             (Bytes, [b"", b"\x00", b"a", b"a" * 16, b"b", b"\xff"]),
             (Texts, [[], [""], ["a"], ["a", "b"], ["a" * 16], ["\u20ac"], ["\U0001f331"]]),
         ):
@@ -338,7 +637,7 @@ class Orders(unittest.TestCase):
 
     def test_indices(self):
         """An index is a number or a slice."""
-        for value in (List([1]), Bytes(b"a"), Texts(["a"])):
+        for value in (List([1]), Array("d", [1]), Bytes(b"a"), Texts(["a"])):
             for key in ("0", 0.0, None, (0,)):
                 for call in (
                     lambda: value[key],
@@ -351,7 +650,8 @@ class Orders(unittest.TestCase):
         """A value may be an argument of its own call."""
         for size in (1, 15, 16, 40, 1024):
             numbers, data, texts = List(range(size)), Bytes([7] * size), Texts(["a"] * size)
-            for value in (numbers, data, texts):
+            arrays = [Array(code, [each % 100 for each in range(size)]) for code in ENDS]
+            for value in (numbers, data, texts, *arrays):
                 model = plain(list(value))
                 value.extend(value)
                 self.assertEqual(plain(list(value)), model * 2)
@@ -369,8 +669,9 @@ class Growth(unittest.TestCase):
     def test_at_once(self):
         """Calls that need one item of a large value don't take time by its length."""
         numbers, data, texts = List(range(10**6)), Bytes(10**6 * b"a"), Texts(["a"] * 10**5)
+        reals = Array("d", range(10**6))
         start = time.perf_counter()
-        for value, first in ((numbers, 0), (data, 97), (texts, "a")):
+        for value, first in ((numbers, 0), (reals, 0.0), (data, 97), (texts, "a")):
             for _ in range(10**4):
                 next(iter(value))
                 next(reversed(value))

@@ -2,7 +2,7 @@
 
 from typing import assert_type
 
-from ecow import Bytes, LentText, LentValue, List, Text, Texts, Value
+from ecow import Array, Bytes, LentText, LentValue, List, Text, Texts, Value
 
 text = Text("a")
 longer: Text = text + "b"
@@ -20,6 +20,14 @@ numbers = List([1])
 numbers += [2]
 numbers.extend(number for number in (1, 2))
 assert_type(sum(numbers), int)
+reals = Array("d", [1, 2.5])
+reals += [0.5]
+assert_type(reals[1:], Array)
+assert_type(reals + [1.0], Array)
+assert_type(reals.copy(), Array)
+assert_type(Array(reals).typecode, str)
+with reals.edit() as view:
+    view[0] = 5.5
 data = Bytes(b"x")
 data += b"y"
 assert_type(data.partition(Bytes(b"x")), tuple[Bytes, Bytes, Bytes])
@@ -33,6 +41,7 @@ assert_type(value.part(["a", 0]).copy(), Value)
 assert_type(hash(value["a"]), int)
 # Each of these lines is refused: a comment that ignores nothing is refused itself.
 texts[0].append("x")  # type: ignore
+reals.append("x")  # type: ignore
 value.part("a").append(1)  # type: ignore
 counts[Text("b")] = 1  # type: ignore
 del value["a", 0]
