@@ -15,8 +15,8 @@
 #define LOCKED(value) false
 #include "kind.h"
 
-/* Parts that nest so deep are read one by one. */
-enum { SHALLOW = 16 };
+/* Parts that nest so deep are read one by one; shared parts that do so are compared once. */
+enum { SHALLOW = 16, RECORD = 3 };
 
 static const char *const kind_names[] = {
     "nothing", "truth", "number", "real", "text", "list", "fields",
@@ -758,6 +758,61 @@ static int value_contains(PyObject *self, PyObject *object) {
     return PyErr_Occurred() ? -1 : found;
 }
 
+/* Whether a text equals an object: 1, 0, or -1 where that is no `str`, or one with lone surrogates. */
+static int equals_str(const ecow_text *text, PyObject *other) {
+    size_t size;
+    Py_ssize_t length;
+    const char *bytes = ecow_text_slice(text, &size);
+    const char *right = PyUnicode_CheckExact(other) ? PyUnicode_AsUTF8AndSize(other, &length) : NULL;
+    if (!right) {
+        PyErr_Clear();
+        return -1;
+    }
+    return size == (size_t)length && memcmp(bytes, right, size) == 0;
+}
+
+/* Whether a value equals an object as `equal` says: 1, 0, or -1 where only that knows: of other types,
+ * of fields in another order, and of parts that nest deep or are shared. No code of Python's runs. */
+static int equals_plain(const ecow_value *value, PyObject *other, int level) {
+    bool truth = false, is_list = ecow_value_kind(value) == ECOW_KIND_LIST;
+    int64_t number = 0;
+    double real = 0;
+    int overflow;
+    if (ecow_value_kind(value) == ECOW_KIND_TEXT) {
+        return equals_str(ecow_value_peek_text(value), other);
+    }
+    if (PyBool_Check(other)) {
+        return ecow_value_truth(value, &truth) == ECOW_OK ? truth == (other == Py_True) : -1;
+    }
+    if (PyLong_CheckExact(other)) {
+        return ecow_value_number(value, &number) == ECOW_OK
+                   ? number == PyLong_AsLongLongAndOverflow(other, &overflow) && !overflow
+                   : -1;
+    }
+    if (PyFloat_CheckExact(other)) {
+        return ecow_value_real(value, &real) == ECOW_OK ? real == PyFloat_AsDouble(other) : -1;
+    }
+    if (!has_parts(value) || level == SHALLOW
+        || !(is_list ? PyList_CheckExact(other) : PyDict_CheckExact(other))) {
+        return other == Py_None && ecow_value_kind(value) == ECOW_KIND_NOTHING ? 1 : -1;
+    }
+    Py_ssize_t len = (Py_ssize_t)ecow_value_len(value), place = 0;
+    int same = len == (is_list ? PyList_Size(other) : PyDict_Size(other));
+    for (Py_ssize_t index = 0; index < len && same == 1; index++) {
+        const ecow_value *item = ecow_value_peek(value, (size_t)index);
+        PyObject *name, *part = is_list ? PyList_GetItem(other, index) : NULL;
+        if (!is_list) {
+            PyDict_Next(other, &place, &name, &part);
+            same = equals_str(ecow_value_peek_name(value, (size_t)index), name) == 1 ? 1 : -1;
+        }
+        if (same == 1) {
+            bool is_far = ecow_value_depth(item) >= RECORD && is_shared(item);
+            same = is_far ? -1 : equals_plain(item, part, level + 1);
+        }
+    }
+    return same;
+}
+
 static PyObject *value_compared(PyObject *self, PyObject *other, int operation) {
     core_state *state = value_cast(self)->state;
     const ecow_value *value = &value_cast(self)->value;
@@ -772,6 +827,10 @@ static PyObject *value_compared(PyObject *self, PyObject *other, int operation) 
     /* The library tells numbers of two kinds apart. */
     if (right && ecow_value_equal(value, right)) {
         return PyBool_FromLong(operation == Py_EQ);
+    }
+    int known = right ? -1 : equals_plain(value, other, 0);
+    if (known >= 0) {
+        return PyBool_FromLong(known == (operation == Py_EQ));
     }
     PyObject *answer = call_helper(state->names.equal, self, other);
     int equal = answer ? PyObject_IsTrue(answer) : -1;

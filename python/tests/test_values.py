@@ -4,6 +4,7 @@ import collections
 import copy
 import dataclasses
 import math
+import os
 import pickle
 import random
 import time
@@ -524,6 +525,76 @@ class Equality(unittest.TestCase):
         self.assertEqual(Value([1, math.nan]), Value([1.0, math.nan]))
         self.assertNotEqual(Value(math.nan), math.nan)
         self.assertNotEqual(Value([math.nan]), [math.nan])
+
+    def test_objects(self):
+        """An object of another type, or one whose code runs, is compared as `to_python()` is."""
+        class Word(str):
+            def __eq__(self, other):
+                return True
+
+            __hash__ = str.__hash__
+
+        class Number(int):
+            def __eq__(self, other):
+                return other == 7
+
+            __hash__ = int.__hash__
+
+        class Items(list):
+            def __eq__(self, other):
+                return isinstance(other, list) and len(other) == 2
+
+        class Names(dict):
+            def __eq__(self, other):
+                return True
+
+        things = [Word("b"), Number(5), Items([1]), Names(x=1), Items(), "\ud800", "\u00e9" * 9, "\U0001f331",
+                  "x\0y", 2**63, -(2**63), 2**64, 0.5, float(2**53), 2**53 + 1, math.inf, math.nan, (1,), 1j, b"a",
+                  {1: 2}, {None: 1}, {"a": 1, 1: 2}, {Word("a"): 1}, collections.OrderedDict(a=1), range(2), {"": ""},
+                  [None], {"b": 1, "a": 2}, {"a": 2, "b": 1}, {"\ud800": 1}]
+        plains = [None, True, 7, 5, 0.5, 2**53, -(2**63), 2**63 - 1, float(2**63), math.inf, "b", "\u00e9" * 9,
+                  "x\0y", "x", "\U0001f331", [], [1], [1, 2], {}, {"a": 1}, {"a": 2, "b": 1}, {"": ""}, [None]]
+        for plain_one in plains:
+            value = Value(plain_one)
+            for thing in things + plains:
+                for wrap in (lambda part: part, lambda part: [0, part, "x"], lambda part: {"k": 1, "l": part},
+                             lambda part: [{"a": [part]}], lambda part: [part, part, [[part]]]):
+                    one, other = wrap(plain_one), wrap(thing)
+                    alike = one == other
+                    self.assertIs(Value(one) == other, alike, (one, other))
+                    if type(other) in (list, dict):
+                        self.assertIs(Value(one) != other, not alike, (one, other))
+                    self.assertIs(Value(wrap(value)) == other, alike)
+
+        class Changing:
+            """What changes both sides while they are compared."""
+
+            def __eq__(self, other):
+                value.clear()
+                source.clear()
+                kept.extend([bytes(50)] * 99)
+                return True
+
+        kept = []
+        for make in (lambda part: ["x" * 40, part, {"a": "y" * 40}, part], lambda part: [[part, 1], [part]]):
+            for _ in range(3):
+                source, value = make(Changing()), Value(make(1))
+                self.assertIn(outcome(lambda: value == source), (True, False))
+
+    @unittest.skipIf("asan" in os.environ.get("LD_PRELOAD", ""), "the module is checked, and slow")
+    def test_beside_objects(self):
+        """A comparison with objects of Python's own takes at most ten times theirs."""
+        def made():
+            return {"items": [{"id": at, "name": f"item {at}", "tags": ["a", "b"]} for at in range(10**4)]}
+
+        source, other = made(), made()
+        value, times = Value(source), ([], [])
+        for _ in range(15):
+            for call, took in zip((lambda: value == source, lambda: other == source), times):
+                start = time.perf_counter()
+                self.assertTrue(call())
+                took.append(time.perf_counter() - start)
+        self.assertLess(min(times[0]), 10 * min(times[1]))
 
     def test_shared(self):
         """What shares its parts is compared, hashed, measured, copied and pickled part by part."""
