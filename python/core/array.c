@@ -91,7 +91,7 @@ static const item_type *find_type(const char *code) {
 bool is_array(const Py_buffer *view, char family, size_t size) {
     const char *format = view->format ? view->format : "B";
     const item_type *type = find_type(format + (*format == '@' || *format == '='));
-    return type && type->family == family && type->size == size && view->ndim == 1
+    return type && type->family == family && view->ndim == 1
            && view->itemsize == (Py_ssize_t)size;
 }
 

@@ -133,6 +133,8 @@ def attempt(make, call, shared, number):
         return refused.value > 0, f"raised {error!r}"
     if error and plain(value) != before:
         return refused.value > 0, "changed the value"
+    if isinstance(value, Array) and not memoryview(value).readonly:
+        return refused.value > 0, "lends the value's memory to write to"
     if plain(other) != before:
         return refused.value > 0, "changed another value"
     return refused.value > 0, None

@@ -446,10 +446,12 @@ class Given(unittest.TestCase):
                 outcome(call)
             gc.collect()
             blocks, size = held()
+            nones = sys.getrefcount(None)
             for _ in range(rounds):
                 outcome(call)
             gc.collect()
             more_blocks, more_size = held()
+            self.assertLess(sys.getrefcount(None) - nones, rounds // 2, f"call {number}")
             # What leaks takes a block, or 16 bytes or more, each round.
             self.assertLess(more_blocks - blocks, rounds // 2, f"call {number}")
             self.assertLess(more_size - size, 8 * rounds, f"call {number}")

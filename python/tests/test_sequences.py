@@ -549,6 +549,9 @@ class Arrays(unittest.TestCase):
                 self.assertEqual(Array(code, source), wanted)
         self.assertEqual(Array("d", memoryview(array.array("d", [1.5, 2.5])).cast("B").cast("d")), [1.5, 2.5])
         self.assertIs(outcome(lambda: Array("i", array.array("d", [1.5]))), TypeError)
+        square = memoryview(array.array("q", [1, 2, 3, 4])).cast("B").cast("q", [2, 2])
+        for make in (List, functools.partial(Array, "q")):
+            self.assertIs(outcome(lambda: make(square)), NotImplementedError)
         self.assertIs(outcome(lambda: Array("q", array.array("Q", [2**63]))), OverflowError)
         self.assertEqual(Array("Q", array.array("Q", [2**63])), [2**63])
         self.assertEqual(List(Array("q", [2**63 - 1, -1])), [2**63 - 1, -1])

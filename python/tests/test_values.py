@@ -552,7 +552,7 @@ class Equality(unittest.TestCase):
                   "x\0y", 2**63, -(2**63), 2**64, 0.5, float(2**53), 2**53 + 1, math.inf, math.nan, (1,), 1j, b"a",
                   {1: 2}, {None: 1}, {"a": 1, 1: 2}, {Word("a"): 1}, collections.OrderedDict(a=1), range(2), {"": ""},
                   [None], {"b": 1, "a": 2}, {"a": 2, "b": 1}, {"\ud800": 1}]
-        plains = [None, True, 7, 5, 0.5, 2**53, -(2**63), 2**63 - 1, float(2**63), math.inf, "b", "\u00e9" * 9,
+        plains = [None, True, 7, 5, -1, 0.5, 2**53, -(2**63), 2**63 - 1, float(2**63), math.inf, "b", "\u00e9" * 9,
                   "x\0y", "x", "\U0001f331", [], [1], [1, 2], {}, {"a": 1}, {"a": 2, "b": 1}, {"": ""}, [None]]
         for plain_one in plains:
             value = Value(plain_one)
@@ -607,6 +607,12 @@ class Equality(unittest.TestCase):
         value, other = layers(400), layers(400)
         self.assertTrue(value == other)
         self.assertFalse(value == layers(399))
+        # Objects of Python's own may share their parts too.
+        few, objects = Value(["x" * 20]), ["x" * 20]
+        for _ in range(14):
+            few, objects = Value([few] * 30), [objects] * 30
+        self.assertTrue(few == objects and objects == few)
+        self.assertFalse(few == [*objects[:-1], objects[:-1]])
         self.assertEqual(hash(value[0]), hash(other[1]))
         self.assertFalse(5 in value)
         self.assertTrue(value[0] in other)
