@@ -71,6 +71,18 @@
 #if __has_include(<format>)
 #include <format>
 #endif
+/* Whether std::format takes texts and values. LLVM's library has it before it says so. */
+#if defined __cpp_lib_format
+#define ECOW_FORMATS
+#elif defined _LIBCPP_VERSION && !defined _LIBCPP_HAS_NO_INCOMPLETE_FORMAT
+#if _LIBCPP_VERSION >= 160000 && __cplusplus >= 202002L
+#define ECOW_FORMATS
+#endif
+#endif
+#ifdef ECOW_FORMATS
+#include <locale>
+#include <sstream>
+#endif
 
 /* Stands behind a member whose result refers into the value. */
 #if defined __has_cpp_attribute && __has_cpp_attribute(clang::lifetimebound)
@@ -2478,11 +2490,22 @@ struct text_hash {
 template <typename Item> constexpr bool std::ranges::enable_borrowed_range<ecow::span<Item>> = true;
 #endif
 
-#ifdef __cpp_lib_format
+#ifdef ECOW_FORMATS
 /* A text is written as std::string_view is, with the same width and precision. */
 template <> struct std::formatter<ecow::text> : std::formatter<std::string_view> {
     template <typename Context> auto format(const ecow::text &written, Context &context) const {
         return std::formatter<std::string_view>::format(written, context);
+    }
+};
+
+/* A value is written as `<<` writes it where no locale is set, with the width and precision of a
+ * std::string_view. */
+template <> struct std::formatter<ecow::value> : std::formatter<std::string_view> {
+    template <typename Context> auto format(const ecow::value &written, Context &context) const {
+        std::ostringstream line;
+        line.imbue(std::locale::classic());
+        line << written;
+        return std::formatter<std::string_view>::format(line.str(), context);
     }
 };
 #endif

@@ -1,6 +1,6 @@
 #!/bin/sh
 # Tests the library for C, which is in bin/, in less than a minute: with a C compiler ($CC, or cc), and with each of
-# nm, pkg-config, C++17, C++20, Python and valgrind that is there. The last line says which were.
+# nm, pkg-config, C++17, C++20, std::format, Python and valgrind that is there. The last line says which were.
 set -eu
 cd "$(dirname "$0")/../.."
 cc=${CC:-cc}
@@ -229,6 +229,20 @@ fi
 if has C++20 $cxx -std=c++20 -fsyntax-only -include compare -x c++ /dev/null; then
     test_cpp 20
     tools/gate/counts.sh C++20 "$runs runs"
+fi
+# A compiler, with its flags, whose library has std::format.
+formats() {
+    for how in "$cxx -std=c++20" "clang++ -std=c++20 -stdlib=libc++ -fexperimental-library" \
+        "clang++-16 -std=c++20 -stdlib=libc++ -fexperimental-library"; do
+        if $how -Iinclude -fsyntax-only c/tests/format.cpp; then return; fi
+    done
+    return 1
+}
+if has std::format formats; then
+    $how -O1 -Iinclude c/tests/format.cpp bin/libecow.a -o "$out/format-cpp"
+    "$out/format-cpp" > "$out/said"
+    cat "$out/said"
+    tools/gate/counts.sh std::format "$(sed 's/[^0-9]*\([0-9]*\).*/\1/' "$out/said") checks"
 fi
 wait "$python" || { cat "$out/python"; exit 1; }
 cat "$out/python"
