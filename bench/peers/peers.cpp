@@ -93,7 +93,7 @@ public:
     }
 
     /* Adds a cell of the last column. The first column has a cell in each row. */
-    void add(const char *task, std::function<double()> run) {
+    void add(const std::string &task, std::function<double()> run) {
         auto place = std::find_if(rows.begin(), rows.end(),
                                   [&](const row &each) { return each.task == task; });
         if (place == rows.end()) {
@@ -150,15 +150,15 @@ public:
     shared() = default;
     shared(const char *start, std::size_t count) : inner(std::make_shared<Inner>(start, count)) {}
 
-    void push_back(std::int64_t number) {
-        own().push_back(number);
+    void push_back(const typename Inner::value_type &item) {
+        own().push_back(item);
     }
 
     void append(const char *start, std::size_t count) {
         own().append(start, count);
     }
 
-    std::int64_t &operator[](std::size_t index) {
+    typename Inner::value_type &operator[](std::size_t index) {
         return own()[index];
     }
 
@@ -280,26 +280,51 @@ public:
 
 /* ---- The tasks ---- */
 
-template <typename List> void set(List &list, std::size_t index, std::int64_t number) {
-    list[index] = number;
+struct point {
+    double x, y;
+};
+
+/* An item of a list that stands for a number, and that number. */
+template <typename Item> Item item(std::size_t number) {
+    return static_cast<Item>(number);
 }
 
-void set(ecow::list &list, std::size_t index, std::int64_t number) {
-    list.set(index, number);
+template <> point item(std::size_t number) {
+    return {static_cast<double>(number), 0.5};
+}
+
+template <typename Item> Item number(const Item &item) {
+    return item;
+}
+
+double number(const point &item) {
+    return item.x;
+}
+
+template <typename List> using item_of = std::decay_t<decltype(*std::declval<const List &>().begin())>;
+
+template <typename List> void set(List &list, std::size_t index, const item_of<List> &item) {
+    list[index] = item;
+}
+
+template <typename Item>
+void set(ecow::vector<Item> &list, std::size_t index, const Item &item) {
+    list.set(index, item);
 }
 
 template <typename List> void fill(List &list) {
-    for (std::int64_t number = 0; number < static_cast<std::int64_t>(len); number++) {
-        list.push_back(number);
+    for (std::size_t at = 0; at < len; at++) {
+        list.push_back(item<item_of<List>>(at));
     }
 }
 
+/* The numbers of a list are whole, and so is their sum. */
 template <typename List> std::int64_t sum(const List &list) {
-    std::int64_t all = 0;
-    for (std::int64_t number : list) {
-        all += number;
+    decltype(number(*list.begin())) all = 0;
+    for (const auto &each : list) {
+        all += number(each);
     }
-    return all;
+    return static_cast<std::int64_t>(all);
 }
 
 /* Where edits go, one after another: all over a list, and never twice to a place. */
@@ -329,38 +354,41 @@ double edit(std::vector<List> &versions, const std::vector<std::size_t> &places)
     malloc_trim(0);
     return timed(places.size(), [&] {
         for (std::size_t place : places) {
-            set(versions.emplace_back(versions.back()), place, len);
+            set(versions.emplace_back(versions.back()), place, item<item_of<List>>(len));
         }
     });
 }
 
-template <typename List> void lists(table &to) {
-    to.add("1,000 edits of a list, each kept as a version: an edit", [] {
+/* The tasks of a list, whose name says of what it is. */
+template <typename List> void lists(table &to, const std::string &name = "a list") {
+    to.add("1,000 edits of " + name + ", each kept as a version: an edit", [] {
         std::vector<List> versions;
         double time = edit(versions, places(edits));
         CHECK(sum(versions.front()) == sum_after(0) && sum(versions.back()) == sum_after(edits));
         return time;
     });
-    to.add("the same: memory of all versions, MiB", [] {
-        std::vector<std::size_t> all = places(edits);
-        std::size_t before = held();
-        std::vector<List> versions;
-        edit(versions, all);
-        return static_cast<double>(held() - before) / (1 << 20);
-    });
-    to.add("edits in place, of a list that nobody shares: an edit", [] {
+    if (name == "a list") {
+        to.add("the same: memory of all versions, MiB", [] {
+            std::vector<std::size_t> all = places(edits);
+            std::size_t before = held();
+            std::vector<List> versions;
+            edit(versions, all);
+            return static_cast<double>(held() - before) / (1 << 20);
+        });
+    }
+    to.add("edits in place, of " + name + " that nobody shares: an edit", [] {
         List list;
         fill(list);
         std::vector<std::size_t> all = places(len);
         double time = timed(len, [&] {
             for (std::size_t place : all) {
-                set(list, place, len);
+                set(list, place, item<item_of<List>>(len));
             }
         });
         CHECK(sum(list) == sum_after(len));
         return time;
     });
-    to.add("a list cloned, the clone dropped", [] {
+    to.add(name + " cloned, the clone dropped", [] {
         List list;
         fill(list);
         return repeated(clones, [&] {
@@ -368,13 +396,13 @@ template <typename List> void lists(table &to) {
             keep(clone);
         });
     });
-    to.add("a list made by pushes: a push", [] {
+    to.add(name + " made by pushes: a push", [] {
         List list;
         double time = timed(len, [&] { fill(list); });
         CHECK(sum(list) == sum_after(0));
         return time;
     });
-    to.add("the sum of a list by iteration: a number", [] {
+    to.add("the sum of " + name + " by iteration: a number", [] {
         List list;
         fill(list);
         return repeated(10,
@@ -485,6 +513,11 @@ template <typename List, typename Text> void all_tasks(table &to) {
     growth<Text>(to);
 }
 
+template <typename Doubles, typename Points> void typed_tasks(table &to) {
+    lists<Doubles>(to, "a list of doubles");
+    lists<Points>(to, "a list of points");
+}
+
 } // namespace
 
 int main(int count, char **words) {
@@ -492,10 +525,15 @@ int main(int count, char **words) {
     /* A `std::shared_ptr` counts its owners atomically once there was a second thread. */
     std::thread([] {}).join();
     using numbers = std::vector<std::int64_t>;
+    using doubles = std::vector<double>;
+    using points = std::vector<point>;
     table all;
     all_tasks<ecow::list, ecow::text>(all.column("This library"));
+    typed_tasks<ecow::vector<double>, ecow::vector<point>>(all);
     all_tasks<numbers, std::string>(all.column("`std::vector`, `std::string`"));
+    typed_tasks<doubles, points>(all);
     all_tasks<shared<numbers>, shared<std::string>>(all.column("`std::shared_ptr` to these"));
+    typed_tasks<shared<doubles>, shared<points>>(all);
 #ifdef HAS_QT
     all_tasks<QList<qint64>, QString>(all.column("`QList`, `QString`"));
     texts<QByteArray>(all.column("`QByteArray`"));

@@ -5,6 +5,7 @@ in nanoseconds where the row names no other unit; the least of a row is bold. Me
 a fresh process grows. What can't change has itself for a clone, and a pvector is edited in place
 by its evolver."""
 
+import array
 import ctypes
 import pathlib
 import resource
@@ -13,7 +14,7 @@ import sys
 import timeit
 from typing import Callable, NamedTuple
 
-from ecow import List, Text, Texts
+from ecow import Array, List, Text, Texts
 
 try:
     from pyrsistent import pvector
@@ -82,6 +83,19 @@ TASKS = (
          "v = {list}", "s = sum(v)", "s == sum_after(0)", LEN),
     Task("a list compared with its clone", time,
          "v = {list}; w = {clone}", "v == w", "v == w", 1, CLONES),
+    Task("1,000 edits of a list of doubles, each kept as a version: an edit", time,
+         "v = {doubles}; versions = [v]; trim(0)", KEEP, KEPT, EDITS),
+    Task("edits in place, of a list of doubles that nobody shares: an edit", time,
+         "v = {doubles}", "for at in PLACES: v[at] = LEN", "all(v[at] == LEN for at in PLACES)", LEN),
+    Task("a list of doubles cloned, the clone dropped", time,
+         "v = {doubles}", "w = {clone}", "w == v", 1, CLONES),
+    Task("a list of doubles made by pushes: a push", time,
+         "v = {no_doubles}; numbers = [float(n) for n in range(LEN)]", "for n in numbers: {push}",
+         "sum(v) == sum_after(0)", LEN),
+    Task("the sum of a list of doubles by iteration: a number", time,
+         "v = {doubles}", "s = sum(v)", "s == sum_after(0)", LEN),
+    Task("a list of doubles compared with its clone", time,
+         "v = {doubles}; w = {clone}", "v == w", "v == w", 1, 10),
     Task("100,000 texts of ten letters made of slices: a text", time,
          "letters = {text}(ALPHABETS); texts = {texts}()", PUT, ARE_PUT, LEN),
     Task("the same: memory of a text, bytes", memory,
@@ -95,19 +109,27 @@ TASKS = (
          APPENDS, 100),
 )
 SET = "w = v.copy(); w[at] = LEN"
+FLOATS = "[float(n) for n in range(LEN)]"
 COLUMNS = {
     "`List`, `Text`": {
         "list": "List(range(LEN))", "own": "List(range(LEN))", "empty": "List()", "version": SET,
         "clone": "v.copy()", "push": "v.append(n)", "text": "Text", "texts": "list",
         "copy": "t.copy()"},
     "`Texts` of `str`": {"text": "str", "texts": "Texts"},
+    "`Array`": {
+        "doubles": "Array('d', range(LEN))", "no_doubles": "Array('d')", "version": SET,
+        "clone": "v.copy()", "push": "v.append(n)"},
     "`pvector`": {
         "list": "pvector(range(LEN))", "own": "pvector(range(LEN)).evolver()",
         "empty": "pvector()", "version": "w = v.set(at, LEN)", "clone": "v",
         "push": "v = v.append(n)"},
     "`list`, `str`": {
         "list": "list(range(LEN))", "own": "list(range(LEN))", "empty": "[]", "version": SET,
-        "clone": "v.copy()", "push": "v.append(n)", "text": "str", "texts": "list", "copy": "t"},
+        "clone": "v.copy()", "push": "v.append(n)", "text": "str", "texts": "list", "copy": "t",
+        "doubles": FLOATS, "no_doubles": "[]"},
+    "`array.array`": {
+        "doubles": "array.array('d', range(LEN))", "no_doubles": "array.array('d')",
+        "version": "w = v[:]; w[at] = LEN", "clone": "v[:]", "push": "v.append(n)"},
     "`tuple`": {
         "list": "tuple(range(LEN))", "version": "w = v[:at] + (LEN,) + v[at + 1:]", "clone": "v"},
 }

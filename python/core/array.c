@@ -155,14 +155,21 @@ static int array_init(PyObject *self, PyObject *arguments, PyObject *named) {
     return none ? 0 : -1;
 }
 
-/* Two arrays are compared as lists of their items, of which a NaN equals no other. Whole numbers are
- * equal where their bytes are. */
+/* Two arrays are compared as lists of their items, of which a NaN equals no other. */
 static PyObject *array_compared_alike(PyObject *self, PyObject *other, int operation) {
     const typed_items *left = &array_cast(self)->value, *right = &array_cast(other)->value;
-    if ((operation == Py_EQ || operation == Py_NE) && left->type == right->type && left->type
-        && left->type->family != 'r') {
-        return PyBool_FromLong(ecow_array_equal(&left->array, &right->array)
-                               == (operation == Py_EQ));
+    if ((operation == Py_EQ || operation == Py_NE) && left->type == right->type && left->type) {
+        size_t len = items_len(left);
+        const void *one = items_slice(left, NULL), *another = items_slice(right, NULL);
+        bool same = left->type->family == 'r' ? len == items_len(right)
+                                              : ecow_array_equal(&left->array, &right->array);
+        for (size_t at = 0; *left->type->code == 'd' && same && at < len; at++) {
+            same = ((const double *)one)[at] == ((const double *)another)[at];
+        }
+        for (size_t at = 0; *left->type->code == 'f' && same && at < len; at++) {
+            same = ((const float *)one)[at] == ((const float *)another)[at];
+        }
+        return PyBool_FromLong(same == (operation == Py_EQ));
     }
     PyObject *items = PySequence_List(other);
     PyObject *answer = items ? compare_with_list(self, items, operation) : NULL;
