@@ -3,9 +3,11 @@
 Each call is timed for about SECONDS, 0.2 without the argument, in 20 parts of which the fastest
 counts."""
 
+import functools
 import sys
 import timeit
-from copy import deepcopy
+from array import array
+from copy import copy, deepcopy
 
 import ecow
 
@@ -16,6 +18,7 @@ PARTS = 20
 # what `v` is made of, and the two types.
 LIST, TEXT, TEXTS, BYTES = ("List", list), ("Text", str), ("Texts", list), ("Bytes", bytearray)
 VALUE = ("Value", dict)
+DOUBLES = ("Array", functools.partial(array, "d"))
 RECORDS = {"items": [{"id": number, "tags": ["a", "b"]} for number in range(10**4)]}
 SHORT, LONG, WIDE = "a short text", "letters of a text " * 56, "\u00e9" * 1000
 ROWS = (
@@ -34,6 +37,13 @@ ROWS = (
     ("`l.copy().sort()`, of 1,000", "v.copy().sort()", None, range(1000, 0, -1), LIST),
     ("`l.copy()`, of 1,000,000", "v.copy()", None, range(10**6), LIST),
     ("`l == c`, a copy, of 1,000,000", "v == c", None, range(10**6), LIST),
+    ("`a.append(1.5)`", "v.append(1.5)", None, (), DOUBLES),
+    ("`a[i]`, of 1,000", "v[500]", None, range(1000), DOUBLES),
+    ("`a[i] = 1.5`, of 1,000", "v[500] = 1.5", None, range(1000), DOUBLES),
+    ("`for x in a`, of 1,000", "for x in v: pass", None, range(1000), DOUBLES),
+    ("`a == b`, of 1,000", "v == w", None, range(1000), DOUBLES),
+    ("`Array(\"d\", range(1000))`", "kind(range(1000))", None, (), DOUBLES),
+    ("`a.copy()`, of 1,000,000", "v.copy()", "v[:]", range(10**6), DOUBLES),
     ("`len(t)`", "len(v)", None, LONG, TEXT),
     ("`len(t)`, of 1,000 `\u00e9`", "len(v)", None, WIDE, TEXT),
     ("`t[i]`", "v[5]", None, SHORT, TEXT),
@@ -77,11 +87,12 @@ ROWS = (
 
 def timer(call, kind, source):
     """What times a call, and how often it makes it in a part."""
-    make = "v = kind(source); w = kind(source); c = v.copy(); s = source"
+    make = "v = kind(source); w = kind(source); c = copy(v); s = source"
     if kind is str:
         # Another `str` of the same contents, and bytes of which a copy is made.
         make = "v = source; w = (source + ' ')[:-1]; b = source.encode()"
-    timed = timeit.Timer(call, make, globals={"kind": kind, "source": source, "deepcopy": deepcopy})
+    names = {"kind": kind, "source": source, "copy": copy, "deepcopy": deepcopy}
+    timed = timeit.Timer(call, make, globals=names)
     rounds = 1
     while (took := timed.timeit(rounds)) < SECONDS / 100:
         rounds *= 2
@@ -101,8 +112,8 @@ print("| Call | Here | Python's own | Times |")
 print("|---|--:|--:|--:|")
 worst = ("", 0.0)
 for name, call, other, source, (ours, plain) in ROWS:
-    took, beside = nanoseconds(
-        timer(call, getattr(ecow, ours), source), timer(other or call, plain, source))
+    kind = functools.partial(ecow.Array, "d") if ours == "Array" else getattr(ecow, ours)
+    took, beside = nanoseconds(timer(call, kind, source), timer(other or call, plain, source))
     worst = max(worst, (name, took / beside), key=lambda row: row[1])
     print(f"| {name} | {took:,.0f} | {beside:,.0f} | {took / beside:.1f} |", flush=True)
 print(f"\nThe slowest beside Python's own: {worst[0]}, {worst[1]:.1f} times.")

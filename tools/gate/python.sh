@@ -80,6 +80,14 @@ if command -v mypy > /dev/null; then
     }
     typed=", types by mypy"
 fi
+# What numpy reads and writes, where the interpreter has it.
+beside=", without numpy"
+numpy=$("$python" -c 'import numpy, pathlib; print(pathlib.Path(numpy.__file__).parents[1])' 2> /dev/null) || numpy=
+if [ -n "$numpy" ]; then
+    (cd "$work/tests" && PYTHONPATH=$numpy "$run" -m unittest -k numpy test_memory > "$work/log_numpy" 2>&1) &&
+        ! grep -q skipped "$work/log_numpy" || { cat "$work/log_numpy"; exit 1; }
+    beside=", beside numpy"
+fi
 # The random calls again with a module that sees memory that is read behind its end. The interpreter's own isn't freed.
 checked=
 asan=$(${CC:-cc} -print-file-name=libasan.so)
@@ -99,4 +107,4 @@ fi
 "$run" python/tests/speed.py 0.01 > "$work/speed" || { cat "$work/speed"; exit 1; }
 tests=$(sed -n 's/^Ran \([0-9]*\) tests.*/\1/p' "$work/log")
 tools/gate/counts.sh python.sh "$tests tests" "$(wc -l < "$work/packed") files"
-echo "python: $tests tests of the installed package $version$typed$checked"
+echo "python: $tests tests of the installed package $version$typed$beside$checked"

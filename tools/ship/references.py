@@ -213,7 +213,8 @@ def escaped(text):
 class Documents:
     """What the C files of the package, and `_objects.py`, say of a class and of its calls."""
 
-    FILES = {"List": ["list.c", "list_like.h", "sequence.h"], "Bytes": ["bytes.c", "searching.h", "sequence.h"],
+    FILES = {"List": ["list.c", "list_like.h", "sequence.h"], "Array": ["array.c", "list_like.h", "sequence.h"],
+             "Bytes": ["bytes.c", "searching.h", "sequence.h"],
              "Text": ["text.c", "searching.h"], "Texts": ["texts.c", "list_like.h", "sequence.h"],
              "Value": ["value.c"], "LentText": ["text.c"], "LentValue": ["value.c"], "": ["core.c"]}
     # The class of Python whose calls a class hands on.
