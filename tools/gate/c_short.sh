@@ -230,8 +230,9 @@ if has C++20 $cxx -std=c++20 -fsyntax-only -include compare -x c++ /dev/null; th
     test_cpp 20
     tools/gate/counts.sh C++20 "$runs runs"
 fi
-# A compiler, with its flags, whose library has std::format.
+# A compiler, with its flags, whose library has std::format: $cxx, or clang with LLVM's library beside it.
 formats() {
+    command -v "${cxx%% *}" || return 1
     for how in "$cxx -std=c++20" "clang++ -std=c++20 -stdlib=libc++ -fexperimental-library" \
         "clang++-16 -std=c++20 -stdlib=libc++ -fexperimental-library"; do
         if $how -Iinclude -fsyntax-only c/tests/format.cpp; then return; fi

@@ -355,7 +355,7 @@ def peers(name, page, language, own):
 def pictures():
     return [clones(), blocks(), forms(), house(), growth(), programs(),
             peers("peers-rust", "rust/README.md", "Rust", 2), peers("peers-cpp", "c/CPP.md", "C++", 1),
-            peers("peers-python", "python/README.md", "Python", 2)]
+            peers("peers-python", "python/README.md", "Python", 3)]
 
 
 def main(arguments):
