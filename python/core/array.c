@@ -12,7 +12,6 @@
 #define FORGET(object)
 #define SPARED(state, type) NULL
 #define SPARE_IT(object) false
-#define LOCKED(value) ((value)->views != 0)
 #include "kind.h"
 
 /* Room for an item of any type. Items stand at any address, so they are copied as bytes. */
@@ -109,8 +108,6 @@ static int array_read_item(array_object *object, PyObject *given, any_item *item
     const item_type *type = object->value.type;
     return type ? type->read(given, item) : check(ECOW_KIND, NAME);
 }
-
-static void array_drop_item(any_item *Py_UNUSED(item)) {}
 
 static PyObject *array_item_object(array_object *object, any_item *item, bool Py_UNUSED(is_lent)) {
     return object->value.type->object_of(item);

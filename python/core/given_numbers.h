@@ -12,6 +12,8 @@ typedef struct GIVEN {
     ITEM *made;
 } GIVEN;
 
+static void OWN(drop_item)(ITEM *Py_UNUSED(item)) {}
+
 /* Gathers the items of an iterable in an array. */
 static int OWN(gather)(OBJECT *object, PyObject *source, GIVEN *given) {
     PyObject *items = PySequence_Tuple(source);

@@ -8,8 +8,7 @@
  *     NOTE(to, from)        copies what an object notes beside its value
  *     FORGET(object)        forgets it
  *     SPARED(state, type)   memory for a new object, or null
- *     SPARE_IT(object)      whether the memory of one that is gone is kept for that
- *     LOCKED(value)         whether a value must stay where it is */
+ *     SPARE_IT(object)      whether the memory of one that is gone is kept for that */
 
 static inline OBJECT *OWN(cast)(PyObject *self) {
     return (OBJECT *)self;
@@ -54,16 +53,12 @@ static PyObject *OWN(cloned)(PyObject *self, PyTypeObject *type) {
 }
 
 /* Puts a value in place of an object's, and gives up what was there. */
-static ecow_status OWN(take_over)(OBJECT *object, VALUE *value) {
-    if (LOCKED(&object->value)) {
-        return IN_USE;
-    }
+static void OWN(take_over)(OBJECT *object, VALUE *value) {
     VALUE old = object->value;
     object->value = *value;
     *value = CALL(new)();
     FORGET(object);
     CALL(drop)(&old);
-    return ECOW_OK;
 }
 
 static PyObject *OWN(new)(PyTypeObject *type, PyObject *Py_UNUSED(arguments),

@@ -12,7 +12,6 @@
 #define FORGET(object)
 #define SPARED(state, type) NULL
 #define SPARE_IT(object) false
-#define LOCKED(value) false
 #include "kind.h"
 
 #define ITEM int64_t
@@ -26,8 +25,6 @@
 static int list_read_item(list_object *Py_UNUSED(object), PyObject *given, int64_t *number) {
     return read_q(given, number);
 }
-
-static void list_drop_item(int64_t *Py_UNUSED(number)) {}
 
 static PyObject *list_item_object(list_object *Py_UNUSED(object), int64_t *number,
                                   bool Py_UNUSED(is_lent)) {

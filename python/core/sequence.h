@@ -120,7 +120,11 @@ static int OWN(cut)(PyObject *self, Py_ssize_t start, Py_ssize_t step, Py_ssize_
         Py_ssize_t to = taken + 1 < count ? start + (taken + 1) * step : OWN(length)(self);
         status = OWN(add_part)(&kept, &object->value, from, 1, to - from);
     }
-    status = status ? status : OWN(take_over)(object, &kept);
+    /* What must stay where it is refuses to be cleared. */
+    status = status ? status : CALL(clear)(&object->value);
+    if (status == ECOW_OK) {
+        OWN(take_over)(object, &kept);
+    }
     CALL(drop)(&kept);
     return check(status, NAME);
 }
@@ -278,10 +282,11 @@ static int OWN(repeated)(PyObject *self, Py_ssize_t times, VALUE *made) {
 }
 
 static PyObject *OWN(repeat_in_place)(PyObject *self, Py_ssize_t times) {
-    VALUE value = EMPTY(OWN(cast)(self)->value);
+    OBJECT *object = OWN(cast)(self);
+    VALUE value = EMPTY(object->value);
     int done = times == 1 ? 0 : OWN(repeated)(self, times, &value);
-    if (done == 0 && times != 1) {
-        done = check(OWN(take_over)(OWN(cast)(self), &value), NAME);
+    if (done == 0 && times != 1 && (done = check(CALL(clear)(&object->value), NAME)) == 0) {
+        OWN(take_over)(object, &value);
     }
     CALL(drop)(&value);
     return done < 0 ? NULL : Py_NewRef(self);

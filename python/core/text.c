@@ -12,7 +12,6 @@
 #define FORGET(object) forget(object)
 #define SPARED(state, type) spared(state, type)
 #define SPARE_IT(object) spare_it(object)
-#define LOCKED(value) false
 
 static void forget(text_object *object) {
     object->count = -1;

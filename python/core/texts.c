@@ -12,7 +12,6 @@
 #define FORGET(object)
 #define SPARED(state, type) NULL
 #define SPARE_IT(object) false
-#define LOCKED(value) false
 #include "kind.h"
 
 #define ITEM ecow_text

@@ -27,7 +27,7 @@ assert_type(reals + [1.0], Array)
 assert_type(reals.copy(), Array)
 assert_type(Array(reals).typecode, str)
 with reals.edit() as view:
-    view[0] = 5.5
+    view[0] = 5
 data = Bytes(b"x")
 data += b"y"
 assert_type(data.partition(Bytes(b"x")), tuple[Bytes, Bytes, Bytes])
