@@ -301,14 +301,14 @@ double number(const point &item) {
     return item.x;
 }
 
-template <typename List> using item_of = std::decay_t<decltype(*std::declval<const List &>().begin())>;
+template <typename List>
+using item_of = std::decay_t<decltype(*std::declval<const List &>().begin())>;
 
 template <typename List> void set(List &list, std::size_t index, const item_of<List> &item) {
     list[index] = item;
 }
 
-template <typename Item>
-void set(ecow::vector<Item> &list, std::size_t index, const Item &item) {
+template <typename Item> void set(ecow::vector<Item> &list, std::size_t index, const Item &item) {
     list.set(index, item);
 }
 

@@ -18,7 +18,8 @@ static void texts() {
         const ecow::text text(letters);
         const std::string plain(letters);
         CHECK(std::format("{}", text) == plain);
-        CHECK(std::format("[{:>24}] {:.3}", text, text) == std::format("[{:>24}] {:.3}", plain, plain));
+        CHECK(std::format("[{:>24}] {:.3}", text, text)
+              == std::format("[{:>24}] {:.3}", plain, plain));
         CHECK(std::format("{:*^{}}{}", text, 30, 1) == std::format("{:*^{}}{}", plain, 30, 1));
         CHECK(std::format("{1} {0}", text, ecow::text(text)) == plain + " " + plain);
         /* A text is written as it stands, and a text in a value in quotes. */
@@ -36,9 +37,11 @@ static void values() {
     const std::string line = "{\"size\": [800, 1.5, -7], \"full\": false, \"title\": null, "
                              "\"a \\\"b\\\"\\n\": \"x\\\\\", \"large\": 1234567}";
     CHECK(std::format("{}", value) == line);
-    CHECK(std::format("<{:>200}>", value) == "<" + std::string(200 - line.size(), ' ') + line + ">");
+    CHECK(std::format("<{:>200}>", value)
+          == "<" + std::string(200 - line.size(), ' ') + line + ">");
     CHECK(std::format("{:.5}", value) == line.substr(0, 5));
-    CHECK(std::format("{} {} {}", ecow::value(7), ecow::value(true), ecow::value()) == "7 true null");
+    CHECK(std::format("{} {} {}", ecow::value(7), ecow::value(true), ecow::value())
+          == "7 true null");
     CHECK(std::format("{}{}", ecow::value::list(), ecow::value::fields({})) == "[]{}");
     /* It doesn't depend on the locale of the process. */
     const std::locale before = std::locale::global(std::locale(std::locale(), new grouping));

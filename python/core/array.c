@@ -144,9 +144,9 @@ static int array_init(PyObject *self, PyObject *arguments, PyObject *named) {
     }
     bool is_bytes = PyBytes_Check(source) || PyByteArray_Check(source);
     PyObject *items = is_own ? PySequence_List(source) : Py_NewRef(source);
-    PyObject *none = items ? PyObject_CallMethod((PyObject *)object->state->array,
-                                                 is_bytes ? "frombytes" : "extend", "OO", self, items)
-                           : NULL;
+    PyObject *type_object = (PyObject *)object->state->array;
+    const char *call = is_bytes ? "frombytes" : "extend";
+    PyObject *none = items ? PyObject_CallMethod(type_object, call, "OO", self, items) : NULL;
     Py_XDECREF(items);
     Py_XDECREF(none);
     return none ? 0 : -1;
@@ -194,7 +194,8 @@ static PyObject *array_tolist(PyObject *self, PyObject *Py_UNUSED(none)) {
 }
 
 static PyObject *array_repr(PyObject *self) {
-    return named_repr(self, Py_BuildValue("(NN)", array_typecode(self, NULL), PySequence_List(self)));
+    PyObject *items = PySequence_List(self);
+    return named_repr(self, Py_BuildValue("(NN)", array_typecode(self, NULL), items));
 }
 
 /* Items that another value shares are copied before a view writes to them. */
@@ -237,23 +238,23 @@ static PyObject *array_edit(PyObject *self, PyObject *Py_UNUSED(none)) {
      PyDoc_STR("tolist($self, /)\n--\n\nA `list` of the items.")},                             \
     {"edit", array_edit, METH_NOARGS,                                                          \
      PyDoc_STR("edit($self, /)\n--\n\n"                                                        \
-               "A `memoryview` that writes to the items in place, for a `with` statement. What\n"    \
-               "another value shares is copied first: MemoryError where there is no memory. As\n"    \
-               "long as the view or what was made of it is open, calls that would change the\n"      \
-               "array otherwise, or copy it, raise a BufferError.")},
+               "A `memoryview` that writes to the items in place, for a `with` statement.\n"       \
+               "What another value shares is copied first: MemoryError where there is no\n"        \
+               "memory. As long as the view or what was made of it is open, calls that would\n"    \
+               "change the array otherwise, or copy it, raise a BufferError.")},
 #include "list_like.h"
 /* clang-format on */
 
 static PyGetSetDef array_properties[] = {
-    {"typecode", array_typecode, NULL, "The letter of `array.array` for the type of an item.", NULL},
+    {"typecode", array_typecode, NULL, "The letter of `array.array` for an item's type.", NULL},
     {"itemsize", array_itemsize, NULL, "How many bytes an item takes.", NULL},
     {NULL, NULL, NULL, NULL, NULL},
 };
 
 static PyType_Slot array_slots[] = {
     {Py_tp_doc, "Array(typecode, items=(), /)\n--\n\n"
-                "A list of numbers of one type of C's, as `array.array` has them, whose copies share\n"
-                "memory. The type is one of b, B, h, H, i, I, l, L, q, Q, f and d."},
+                "A list of numbers of one type of C's, as `array.array` has them, whose copies\n"
+                "share memory. The type is one of b, B, h, H, i, I, l, L, q, Q, f and d."},
     LIST_LIKE_SLOTS,
     {Py_tp_repr, array_repr},
     {Py_tp_getset, array_properties},

@@ -84,8 +84,8 @@ typedef struct list_object {
     ecow_list value;
 } list_object;
 
-/* A type of items, by the letter of `array.array`, which is a buffer's format too. The family is 's'
- * of numbers with a sign, 'u' of those without, and 'r' of floats. */
+/* A type of items, by the letter of `array.array`, which is a buffer's format too. The family is
+ * 's' of numbers with a sign, 'u' of those without, and 'r' of floats. */
 typedef struct item_type {
     const char *code;
     char family;
@@ -194,8 +194,8 @@ PyObject *reverse(PyObject *self, PyObject *none);
  * raised. A range may pass the end. */
 Py_ssize_t seek_object(PyObject *sequence, PyObject *object, Py_ssize_t start, Py_ssize_t stop);
 
-/* Text for people: the type's name, and what `repr` gives of an object, or of each member of a tuple.
- * That is given up. */
+/* Text for people: the type's name, and what `repr` gives of an object, or of each member of a
+ * tuple. That is given up. */
 PyObject *named_repr(PyObject *self, PyObject *contents);
 
 /* ---- search.c ---- */
@@ -216,8 +216,8 @@ int lend_array(core_state *state, const typed_items *items, Py_buffer *view, int
 int lend_bytes(core_state *state, const ecow_bytes *bytes, Py_buffer *view, int flags);
 extern PyType_Spec snapshot_spec;
 
-/* Does nothing. A type that has such a call tells its readers to keep a view as long as they use its
- * memory: what isn't kept may be gone once the value is changed. */
+/* Does nothing. A type that has such a call tells its readers to keep a view as long as they use
+ * its memory: what isn't kept may be gone once the value is changed. */
 void release_buffer(PyObject *self, Py_buffer *view);
 
 /* Fills in a view of so many items of a size, which keeps its lender and reads both there. */

@@ -1,5 +1,5 @@
-/* How lists and arrays read the items that a call was given. It is included behind `kind.h`, with the
- * names that `given_array.h` and `sequence.h` need, and two more:
+/* How lists and arrays read the items that a call was given. It is included behind `kind.h`, with
+ * the names that `given_array.h` and `sequence.h` need, and two more:
  *     WIDTH(object), FAMILY(object)   the size and the family of an item */
 
 /* Items that a call was given: in a clone, in a buffer, or in an array that was made of them. */

@@ -1,5 +1,5 @@
-/* How lists, bytes and lists of texts are made of what a call was given, and compared with others of
- * their kind. It is included behind `sequence.h`. */
+/* How lists, bytes and lists of texts are made of what a call was given, and compared with others
+ * of their kind. It is included behind `sequence.h`. */
 
 static int OWN(init)(PyObject *self, PyObject *arguments, PyObject *named) {
     OBJECT *object = OWN(cast)(self);

@@ -182,7 +182,8 @@ def _frombytes(self: Any, data: Any, /) -> None:
 
 
 for _kinds, _name, _method in (
-    ((Array,), "frombytes", _frombytes), ((List, Array, Texts), "sort", _sort), ((Value,), "sort", _sort_at), ((Value,), "index", _index),
+    ((Array,), "frombytes", _frombytes), ((List, Array, Texts), "sort", _sort),
+    ((Value,), "sort", _sort_at), ((Value,), "index", _index),
     ((Value,), "items", _items),
     ((Value,), "update", _update), ((Value,), "setdefault", _setdefault),
     ((Value,), "__or__", _joined), ((Value,), "__ror__", _joined_right),

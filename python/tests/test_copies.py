@@ -173,7 +173,8 @@ class Subclasses(unittest.TestCase):
         document = Document({"a": 1})
         document.path = ["x"]
         return (note, {"author": "me"}), (slotted, {"tag": [3], "more": [4]}), (
-            samples, {"rate": 44100, "more": [1]}), (Bare(b"ab"), {}), (named, {"name": "b"}), (document, {"path": ["x"]})
+            samples, {"rate": 44100, "more": [1]}), (Bare(b"ab"), {}), (
+            named, {"name": "b"}), (document, {"path": ["x"]})
 
     def test_attributes(self):
         for value, attributes in self.made():

@@ -180,8 +180,8 @@ class Edits(unittest.TestCase):
         """No copy or view that was made before sees what is written, and none is made meanwhile."""
         for code in ENDS:
             value = Array(code, [1, 2, 3] * 20)
-            kept = [value.copy(), value[:], memoryview(value), pickle.loads(pickle.dumps(value)), Value(value),
-                    Array(value), value * 1, memoryview(value.copy())[1:].obj and value[::1]]
+            kept = [value.copy(), value[:], memoryview(value), pickle.loads(pickle.dumps(value)),
+                    Value(value), Array(value), value * 1, value[::1]]
             with value.edit() as view:
                 for at in range(60):
                     view[at] = 50
@@ -395,11 +395,14 @@ class Given(unittest.TestCase):
             lambda: reals.edit(), lambda: reals.edit()[3:], lambda: reals.copy().edit(),
             lambda: [reals.edit(), reals.copy()], lambda: [reals.edit(), reals.append(1)],
             lambda: [reals.edit(), memoryview(reals)], lambda: memoryview(reals)[3:], lambda: reals.tolist(),
-            lambda: [reals.edit(), reals.__imul__(2)], lambda: [reals.edit(), reals.__delitem__(slice(0, 9, 2))],
-            lambda: reals == reals.copy(), lambda: reals < list(reals), lambda: reals == Array("i", [1] * 100),
+            lambda: [reals.edit(), reals.__imul__(2)],
+            lambda: [reals.edit(), reals.__delitem__(slice(0, 9, 2))],
+            lambda: reals == reals.copy(), lambda: reals < list(reals),
+            lambda: reals == Array("i", [1] * 100),
             lambda: reals.tobytes(), lambda: repr(reals), lambda: reals.copy().frombytes(bytes(80)),
             lambda: reals.copy().frombytes(b"1"), lambda: reals.copy().__setitem__(slice(0, 9, 2), [1]),
-            lambda: reals.copy().__delitem__(slice(0, 90, 3)), lambda: reals.copy().sort(), lambda: reals.index("x"),
+            lambda: reals.copy().__delitem__(slice(0, 90, 3)), lambda: reals.copy().sort(),
+            lambda: reals.index("x"),
             lambda: reals.typecode, lambda: pickle.loads(pickle.dumps(reals)), lambda: reals.copy().reverse(),
             lambda: Array("d", array.array("d", [1] * 99)), lambda: Array("d", array.array("i", [1] * 99)),
             lambda: Array("d", [1] * 99).__setitem__(slice(1, 2), Array("d", [1] * 99)),

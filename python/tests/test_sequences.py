@@ -450,7 +450,8 @@ class Arrays(unittest.TestCase):
             self.assertNotIn(nan, value)
             self.assertEqual(value.count(nan), 0)
             for compare in (operator.lt, operator.le, operator.gt, operator.ge):
-                self.assertIs(compare(value, value), compare(array.array(code, [nan]), array.array(code, [nan])))
+                plain_one = array.array(code, [nan])
+                self.assertIs(compare(value, value), compare(plain_one, plain_one[:]))
             self.assertTrue(math.isnan(value[0]))
             self.assertEqual(Array(code, [0.0]), Array(code, [-0.0]))
             self.assertEqual(str(Array(code, [-0.0])[0]), "-0.0")
@@ -624,7 +625,8 @@ class Orders(unittest.TestCase):
             (List, [[], [-1], [-1, 5], [0], [1], [1, -9], [2**63 - 1]]),
             (functools.partial(Array, "i"), [[], [-1], [-1, 5], [0], [256], [1, -9], [2**31 - 1]]),
             (functools.partial(Array, "H"), [[], [0], [1], [256], [1, 9], [2**16 - 1]]),
-            (functools.partial(Array, "d"), [[], [-1.5], [-1.5, 5.0], [0.5], [1e300], [math.inf], [-math.inf]]),
+            (functools.partial(Array, "d"), [[], [-1.5], [-1.5, 5.0], [0.5], [1e300], [math.inf],
+                                             [-math.inf]]),
             (Bytes, [b"", b"\x00", b"a", b"a" * 16, b"b", b"\xff"]),
             (Texts, [[], [""], ["a"], ["a", "b"], ["a" * 16], ["\u20ac"], ["\U0001f331"]]),
         ):

@@ -549,11 +549,13 @@ class Equality(unittest.TestCase):
                 return True
 
         things = [Word("b"), Number(5), Items([1]), Names(x=1), Items(), "\ud800", "\u00e9" * 9, "\U0001f331",
-                  "x\0y", 2**63, -(2**63), 2**64, 0.5, float(2**53), 2**53 + 1, math.inf, math.nan, (1,), 1j, b"a",
-                  {1: 2}, {None: 1}, {"a": 1, 1: 2}, {Word("a"): 1}, collections.OrderedDict(a=1), range(2), {"": ""},
+                  "x\0y", 2**63, -(2**63), 2**64, 0.5, float(2**53), 2**53 + 1, math.inf, math.nan,
+                  (1,), 1j, b"a", {1: 2}, {None: 1}, {"a": 1, 1: 2}, {Word("a"): 1}, range(2),
+                  collections.OrderedDict(a=1), {"": ""},
                   [None], {"b": 1, "a": 2}, {"a": 2, "b": 1}, {"\ud800": 1}]
-        plains = [None, True, 7, 5, -1, 0.5, 2**53, -(2**63), 2**63 - 1, float(2**63), math.inf, "b", "\u00e9" * 9,
-                  "x\0y", "x", "\U0001f331", [], [1], [1, 2], {}, {"a": 1}, {"a": 2, "b": 1}, {"": ""}, [None]]
+        plains = [None, True, 7, 5, -1, 0.5, 2**53, -(2**63), 2**63 - 1, float(2**63), math.inf, "b",
+                  "\u00e9" * 9, "x\0y", "x", "\U0001f331", [], [1], [1, 2], {}, {"a": 1},
+                  {"a": 2, "b": 1}, {"": ""}, [None]]
         for plain_one in plains:
             value = Value(plain_one)
             for thing in things + plains:
