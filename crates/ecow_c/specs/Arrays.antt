@@ -35,7 +35,7 @@ AltersItems size change = AltersArray (λ bytes. concat (change (items_in size b
 abbrev pub HasItemsAnd : ℕ → Option (List ℕ) → (List ℕ → Type 0) → Type 0
 HasItemsAnd size old P = IsSomeAnd old (λ bytes. (are_items size bytes ≡ true) × P bytes)
 
--- the same, and the added bytes are items of that size too
+-- the value is there, its bytes and the added ones are items of that size, and P holds of its bytes
 abbrev pub BothHaveItemsAnd : ℕ → List ℕ → Option (List ℕ) → (List ℕ → Type 0) → Type 0
 BothHaveItemsAnd size added old P =
     HasItemsAnd size old (λ bytes. (are_items size added ≡ true) × P bytes)
@@ -45,7 +45,7 @@ abbrev pub RefusesSize : ℕ → Option (List ℕ) → ℕ → Type 0
 RefusesSize size old status =
     status ≡ KIND ↔ IsSomeAnd old (λ bytes. are_items size bytes ≡ false)
 
--- the same, or the added bytes aren't
+-- the status is KIND exactly where the bytes, or the added ones, aren't items of that size
 abbrev pub RefusesSizes : ℕ → List ℕ → Option (List ℕ) → ℕ → Type 0
 RefusesSizes size added old status =
     status ≡ KIND ↔ IsSomeAnd old (λ bytes. are_items size bytes && are_items size added ≡ false)

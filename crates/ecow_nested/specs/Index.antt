@@ -66,7 +66,12 @@ pub record Node : Type 0 where
 
 abbrev pub node_of : {T : Type 0} → Entry T → Node
 node_of e =
-    record { name = option_map (λ f. f.name) e.field; left = e.left; right = e.right; again = e.again }
+    record {
+      name = option_map (λ f. f.name) e.field;
+      left = e.left;
+      right = e.right;
+      again = e.again;
+    }
 
 abbrev pub nodes_in : {T : Type 0} → List (Entry T) → List Node
 nodes_in entries = map node_of entries

@@ -33,7 +33,7 @@ module _ {T : Type 0} (is_clone : T → T → Type 0) where
       (kept : List T) × IsKeptTwice old kept × (added : List T) × AllZip is_clone xs added
       × (new ≡ replace_range kept start end added)
 
-  -- value stood at `index` of the old elements, each of them or a clone of it, and new is the others
+  -- value stood at `index` of the old elements, each of them or a clone of it; new is the others
   abbrev pub Removes : List T → ℕ → T → List T → Type 0
   Removes old index value new =
       SomeKept old (λ kept. (slice_get kept index ≡ Some value) × (new ≡ remove kept index))

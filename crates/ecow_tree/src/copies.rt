@@ -55,8 +55,8 @@ impl<T: Clone> EcoTree<T> {
         Ok(vec)
     }
 
-    /// Makes a tree of clones of the elements of a slice, in leaves of 128. It has no block if there
-    /// are none.
+    /// Makes a tree of clones of the elements of a slice, in leaves of 128. It has no block if
+    /// there are none.
     ///
     /// Clones each element once.
     ///

@@ -53,9 +53,9 @@ impl<T: Clone> EcoTree<T> {
     ///
     /// # Errors
     ///
-    /// `Capacity` at the item past 2^63 - 1; `Memory` if there is no memory for a block. The items so
-    /// far are dropped, and no further one is asked for. The call is never refused if there are no
-    /// items.
+    /// `Capacity` at the item past 2^63 - 1; `Memory` if there is no memory for a block. The items
+    /// so far are dropped, and no further one is asked for. The call is never refused if there are
+    /// no items.
     pub fn from_iter<I: IntoIterator<Item = T>>(alloc: Global, iter: I) -> Result<Self, EcoError>
         requires { IsFiniteIterable
             I.into_iter_gives I.IntoIter.can_next I.IntoIter.remaining iter }

@@ -93,7 +93,8 @@ impl<'a, T> Model for Iter<'a, T> {
 
     ghost view = { λ it. it.front.now ++ (it.chunks ++ it.back.now) };
 
-    ghost invariant = { λ it. length it.front.now + (length it.chunks + length it.back.now) < 2 ^ 64 };
+    ghost invariant = { λ it. length it.front.now + (length it.chunks + length it.back.now)
+        < 2 ^ 64 };
 }
 
 impl<'a, T> Iterator for Iter<'a, T> {

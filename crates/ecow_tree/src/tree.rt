@@ -113,8 +113,8 @@ impl<T> EcoTree<T> {
         None
     }
 
-    /// The elements from `index` on that stand in its block, at least one. So a walk over all elements
-    /// begins at 0, and goes on behind those that came. `index` is below the length.
+    /// The elements from `index` on that stand in its block, at least one. So a walk over all
+    /// elements begins at 0, and goes on behind those that came. `index` is below the length.
     ///
     /// Takes time logarithmic in the length, for up to 128 elements.
     pub fn chunk_at(&self, index: usize) -> &[T]
@@ -125,8 +125,9 @@ impl<T> EcoTree<T> {
         self.root.rest_at(index)
     }
 
-    /// The elements before `end` that stand in one block, at least one. So a walk from the back begins
-    /// at the length, and goes on before those that came. `end` is above 0 and at most the length.
+    /// The elements before `end` that stand in one block, at least one. So a walk from the back
+    /// begins at the length, and goes on before those that came. `end` is above 0 and at most the
+    /// length.
     ///
     /// Takes time logarithmic in the length, for up to 128 elements.
     pub fn chunk_before(&self, end: usize) -> &[T]
@@ -257,8 +258,8 @@ impl<T: Clone> EcoTree<T> {
         self.insert(self.len(), value)
     }
 
-    /// Removes the last element and returns it, or `None` if there is none. Shared blocks on the way
-    /// to it are copied first.
+    /// Removes the last element and returns it, or `None` if there is none. Shared blocks on the
+    /// way to it are copied first.
     ///
     /// Takes time logarithmic in the length. A shared block of elements is cloned.
     ///

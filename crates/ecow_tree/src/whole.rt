@@ -117,8 +117,8 @@ impl<T: Clone> EcoTree<T> {
 
     /// Replaces the elements in `range`, which lies within the length, with clones of `elements`.
     ///
-    /// The new elements stand in leaves of their own. All others stay in their blocks; a shared block
-    /// of elements in which the range begins or ends is cloned.
+    /// The new elements stand in leaves of their own. All others stay in their blocks; a shared
+    /// block of elements in which the range begins or ends is cloned.
     ///
     /// Takes time linear in the number of new elements and of those dropped, and logarithmic in the
     /// length.
@@ -127,9 +127,9 @@ impl<T: Clone> EcoTree<T> {
     ///
     /// # Errors
     ///
-    /// `Capacity` if the new length would pass 2^63 - 1; `Memory` if there is no memory for a block,
-    /// or the clone of an element is refused. The tree is unchanged, but the elements of a shared
-    /// block may be clones then.
+    /// `Capacity` if the new length would pass 2^63 - 1; `Memory` if there is no memory for a
+    /// block, or the clone of an element is refused. The tree is unchanged, but the elements of a
+    /// shared block may be clones then.
     pub fn replace_range<R: RangeBounds<usize>>(
         &mut self,
         range: R,

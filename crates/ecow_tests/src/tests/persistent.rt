@@ -306,9 +306,9 @@ fn replace_range<T: Clone>(
     list.replace_range(start..end, new)
 }
 
-/// Replaces a range of 1,000 elements by three, while another list shares the blocks, and then one
-/// element while none does. Whether the first call clones so many elements beside the three, and the
-/// second the three alone, and both lists hold what they should.
+/// Replaces a range of 1,000 elements by three while another list shares the blocks, and puts three
+/// more in while none does. Whether the first call clones so many elements beside the three, and
+/// the second the three alone, and both lists hold what they should.
 fn replaces(alloc: Global, start: u32, end: u32, clones: u64) -> Result<bool, EcoError> {
     let tally = Tally::new(alloc)?;
     let mut list = counted(alloc, &tally, 1000)?;
@@ -482,8 +482,8 @@ fn update(list: &mut EcoTree<Counting>, index: usize) -> Result<i64, EcoError> {
     )
 }
 
-/// Cuts, extends or changes a list of 300 elements that is shared, or makes one. The clone with that number
-/// is refused. Whether the call is refused then, and leaves all elements.
+/// Cuts, extends or changes a list of 300 elements that is shared, or makes one. The clone with
+/// that number is refused. Whether the call is refused then, and leaves all elements.
 fn refuses(alloc: Global, call: usize, refused: u64) -> Result<bool, EcoError> {
     let tally = Tally::refusing(alloc, refused)?;
     let mut list = counted(alloc, &tally, 300)?;
@@ -572,8 +572,8 @@ fn the_height_is_logarithmic(rt: HostRuntime) -> Result<(), Fail> {
     Ok(())
 }
 
-/// A node is over 16 others at most, so a tree with more than 256 leaves has at least 3 levels above
-/// them. This is so too where lists were appended and cut off in turn.
+/// A node is over 16 others at most, so a tree with more than 256 leaves has at least 3 levels
+/// above them. This is so too where lists were appended and cut off in turn.
 #[test]
 fn nodes_stay_small(rt: HostRuntime) -> Result<(), Fail> {
     let alloc = rt.alloc();

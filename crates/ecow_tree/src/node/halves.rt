@@ -91,8 +91,8 @@ impl<T: Clone> Node<T> {
 }
 
 impl<T: Clone> Node<T> {
-    /// A node with the first `start` elements, those of `middle`, and those from `end` on. A leaf in
-    /// which one of both stands is cut there.
+    /// A node with the first `start` elements, those of `middle`, and those from `end` on. A leaf
+    /// in which one of both stands is cut there.
     pub(crate) fn with_middle(
         &mut self,
         start: usize,
@@ -102,7 +102,8 @@ impl<T: Clone> Node<T> {
         requires ordered { start ≤ end }
         requires within { end ≤ length self.old.items }
         requires some { 0 < length self.old.items }
-        requires bounded { length self.old.items - (end - start) + length middle.now.items < 2 ^ 64 }
+        requires bounded { length self.old.items - (end - start) + length middle.now.items
+            < 2 ^ 64 }
         ensures kept { IsKeptTwice T.is_clone self.old.items self.new.items }
         ensures items { IfOk result
             (λ node. node.items ≡ replace_range self.new.items start end middle.now.items) }
