@@ -991,6 +991,10 @@ public:
 
     /* `index` has to be below the size: nothing checks it. */
     const_reference operator[](size_type index) const noexcept ECOW_LENDS {
+        if (index >= size()) {
+            /* So GCC doesn't warn of an index past the bytes that fit into the value itself. */
+            __builtin_unreachable();
+        }
         return *place_of(index);
     }
 

@@ -194,7 +194,7 @@ template <typename Value> static void ways() {
     CHECK(value == Value{5, 7, 8, 9, 9, 3, 3});
     CHECK(throws<out_of_range>(ECOW_INDEX, [&] { value.erase(value.end()); }));
     CHECK(throws<out_of_range>(ECOW_INDEX, [&] { value.insert(value.end() + 1, 1); }));
-    CHECK(erase(value, 9) == 2 && erase(value, 100) == 0);
+    CHECK(erase(value, item(9)) == 2 && erase(value, item(100)) == 0);
     CHECK(erase_if(value, [](auto each) { return each > 6; }) == 2);
     CHECK(value == Value{5, 3, 3});
     value.resize(5);
